@@ -19,6 +19,7 @@ WRONG = {
     "rattle_alloc": (0xD2800000, 0x10000001, RETURN),       # no memory
     "rattle_realloc": (0xD2800000, 0x10000001, RETURN),     # no memory
     "rattle_arg": (0x92800000, RETURN),                     # no such word
+    "rattle_env": (0x92800000, RETURN),                     # no such variable
     "rattle_errno": (0x52800000, RETURN),                   # no error
     "rattle_lock_range": (0x52800000, RETURN),              # locked
 }

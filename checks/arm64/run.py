@@ -11,13 +11,13 @@ gcc-aarch64-linux-gnu, and no root.
 - A night with its card, by both: what each command writes, the files that it makes, and the bytes
   of the store.
 - Stores that go from one machine to the other and back, which are what each alone makes of the same
-  commands; and a store that a program of the one has open is refused to the other.
+  commands; and a store that a program of the one has open is refused to the other, with its cause.
 - The arm64 package, made here: it has the files of the x86-64 one, but for the programs, and the
   commands of README run from it as printed.
 - The checks of this folder that CHECKS below names, with its few counts. --only takes those of that
-  name alone.
+  name alone, and by `arm64` all that is none of them.
 
-In the end each of five C functions answers wrongly, in a program that is else the same, and must be
+In the end each of six C functions answers wrongly, in a program that is else the same, and must be
 found by the stored runs or by the store that is open.
 """
 import itertools
@@ -36,14 +36,17 @@ from checks.lib.serving import Client
 SHARED = "usr/share/doc/edfstore"
 NIGHT = night.Night(records=1_440, samples=(256, 128, 64), fragments=12)
 SECONDS = 3_600     # that another check may take
+IN_USE = (b"", (printed.NO_STORE + printed.cause("s.db", printed.BUSY)).encode(), 3)
 # Each other check, with its programs and counts.
 CHECKS = (
     ("lines.run", ("edfstore",), ()),
     ("lines.stored", ("edfstore", "edfruns", "edfmend"), ()),
     ("lines.shell", ("edfstore",), ()),
+    ("lines.causes", arguments.PROGRAMS, ()),
     ("fuzz.run", ("edfstore",), (100,)),
     ("fuzz.split", ("edfruns",), (100,)),
     ("split", ("edfstore", "edfruns"), ()),
+    ("fill", ("edfruns",), (30,)),
     ("refused.run", ("edfstore",), (40,)),
     ("powercut.run", ("edfstore", "edfserve"), (6,)),
     ("kill.run", ("edfstore",), (5,)),
@@ -132,10 +135,12 @@ def a_night(found: Checks, ours: dict, guests: dict, folder: Path) -> None:
 
 
 def beside_a_session(one: dict, other: dict, folder: Path) -> tuple:
-    """What the other is answered of a store that a session of the one has open."""
+    """What the other is answered of a store that a session of the one has open, with the cause that
+    it asks for."""
     client = Client(one["edfserve"], folder)
     client.ask("list")
-    ran = measure.ran(other["edfstore"], "list", "s.db", folder=folder, most=checks.SECONDS)
+    ran = measure.ran(other["edfstore"], "list", "s.db", folder=folder,
+                      added={"EDFSTORE_CAUSES": "1"}, most=checks.SECONDS)
     client.end()
     return ran.outcome()
 
@@ -144,8 +149,7 @@ def held_store(found: Checks, ours: dict, guests: dict) -> None:
     """A store that a session of the one has is refused to the other, and then is not."""
     for what, one, other in (("x86-64", ours, guests), ("arm64", guests, ours)):
         found.begin(f"a store that {what} has open")
-        found.same("the other", beside_a_session(one, other, found.folder),
-                   (b"", printed.NO_STORE.encode(), 3))
+        found.same("the other", beside_a_session(one, other, found.folder), IN_USE)
         after = measure.ran(other["edfstore"], "list", "s.db", folder=found.folder)
         found.same("after it", after.outcome(), (b"", b"", 0))
 
@@ -232,7 +236,7 @@ def is_found(name: str, ours: dict, folder: Path) -> bool:
         guests[program] = guest.launcher(wrong, folder, program)
     if not all(is_as_stored(*each) for each in guests.items()):
         return True
-    return beside_a_session(ours, guests, folder)[2] == 0
+    return beside_a_session(ours, guests, folder) != IN_USE
 
 
 def control(found: Checks, ours: dict) -> None:
@@ -246,7 +250,7 @@ def control(found: Checks, ours: dict) -> None:
 def main() -> None:
     parser = arguments.Parser(__doc__, programs=arguments.PROGRAMS)
     parser.add_argument("--only", action="append", default=[], metavar="NAME",
-                        help="of the other checks this one, and nothing else")
+                        help="of the other checks this one, and nothing else; or arm64, all else")
     given = parser.read()
     guest.need()
     ours = {name: getattr(given, option) for name, option in arguments.OPTIONS.items()}
@@ -255,7 +259,7 @@ def main() -> None:
         cases.mkdir()
         guests = guest.launchers(folder)
         found = Checks(guests["edfstore"], cases)
-        if not given.only:
+        if not given.only or "arm64" in given.only:
             stored_runs(found, guests)
             a_night(found, ours, guests, folder / "night")
             held_store(found, ours, guests)

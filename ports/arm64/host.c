@@ -65,17 +65,26 @@ __attribute__((constructor)) static void keep(int argc, char **argv) {
   words = argv;
 }
 
-/* The length of word i, whose bytes are then at the start of `to`. It is -1 where there is no such
-   word, and -2 where `room` is less than its length: then `to` is full. */
-ssize_t rattle_arg(size_t i, unsigned char *to, size_t room) {
-  if (i >= count) {
+/* The length of the text, whose bytes are then at the start of `to`. It is -1 where there is no
+   text, and -2 where `room` is less than its length: then `to` is full. */
+static ssize_t copied(const char *text, unsigned char *to, size_t room) {
+  if (!text) {
     return -1;
   }
   size_t n = 0;
-  for (; n < room && words[i][n]; n++) {
-    to[n] = (unsigned char)words[i][n];
+  for (; n < room && text[n]; n++) {
+    to[n] = (unsigned char)text[n];
   }
-  return words[i][n] ? -2 : (ssize_t)n;
+  return text[n] ? -2 : (ssize_t)n;
+}
+
+ssize_t rattle_arg(size_t i, unsigned char *to, size_t room) {
+  return copied(i < count ? words[i] : NULL, to, room);
+}
+
+/* The same of the value of a variable of the environment. */
+ssize_t rattle_env(const char *name, unsigned char *to, size_t room) {
+  return copied(getenv(name), to, room);
 }
 
 /* Locks or unlocks a range of what `fd` is open on, for that opening of it alone. */

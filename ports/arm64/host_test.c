@@ -1,4 +1,4 @@
-/* What the seven functions of host.c answer, beside what the toolchain's declarations and fcntl(2)
+/* What the eight functions of host.c answer, beside what the toolchain's declarations and fcntl(2)
    say of them. The program's own words are the cases of the arguments. Its last line is
    `N tried, M failed`, and its status is 0 where none failed. */
 #define _GNU_SOURCE
@@ -23,6 +23,7 @@ void rattle_dealloc(unsigned char *p);
 int rattle_errno(void);
 void rattle_set_errno(int error);
 ssize_t rattle_arg(size_t i, unsigned char *to, size_t room);
+ssize_t rattle_env(const char *name, unsigned char *to, size_t room);
 int rattle_lock_range(int fd, int16_t kind, int64_t start, int64_t len);
 
 enum { ROOM = 4096, READ = 0, WRITE = 1, NONE = 2, UNKNOWN = 9, NO_FILE = 999 };
@@ -97,25 +98,47 @@ static void numbers(void) {
   same("set_errno to none", rattle_errno(), 0);
 }
 
-static void word(size_t i, const char *it) {
+/* A word by its number, or a variable by its name. */
+struct text {
+  size_t word;
+  const char *variable;
+};
+
+static ssize_t copied(struct text from, unsigned char *to, size_t room) {
+  return from.variable ? rattle_env(from.variable, to, room) : rattle_arg(from.word, to, room);
+}
+
+static void text(struct text from, const char *it) {
   size_t length = strlen(it);
   for (size_t room = 0; room <= length + 1; room++) {
     unsigned char to[ROOM];
     memset(to, 7, ROOM);
     size_t put = room < length ? room : length;
-    same("arg: its length", rattle_arg(i, to, room), room < length ? -2 : (long)length);
-    same("arg: its bytes", memcmp(to, it, put), 0);
-    same("arg: the bytes behind the room", all(to + room, 7, ROOM - room), true);
+    same("text: its length", copied(from, to, room), room < length ? -2 : (long)length);
+    same("text: its bytes", memcmp(to, it, put), 0);
+    same("text: the bytes behind the room", all(to + room, 7, ROOM - room), true);
   }
 }
 
 static void words(int argc, char **argv) {
   unsigned char to[ROOM];
   for (int i = 0; i < argc; i++) {
-    word((size_t)i, argv[i]);
+    text((struct text){(size_t)i, NULL}, argv[i]);
   }
   same("arg: the one after the last", rattle_arg((size_t)argc, to, ROOM), -1);
   same("arg: one far behind", rattle_arg(SIZE_MAX, to, ROOM), -1);
+}
+
+/* The words are values of a variable too. */
+static void variables(int argc, char **argv) {
+  unsigned char to[ROOM];
+  for (int i = 0; i < argc; i++) {
+    setenv("HOST_TEST", argv[i], true);
+    text((struct text){0, "HOST_TEST"}, argv[i]);
+    same("env: of another name", rattle_env("HOST_TES", to, ROOM), -1);
+  }
+  unsetenv("HOST_TEST");
+  same("env: of none", rattle_env("HOST_TEST", to, ROOM), -1);
 }
 
 /* Of a file that is open three times: 0 and 1 for reading and writing, 2 for reading. */
@@ -163,6 +186,7 @@ static void locks(void) {
 
 int main(int argc, char **argv) {
   words(argc, argv);
+  variables(argc, argv);
   heap();
   freed();
   numbers();
