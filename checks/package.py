@@ -1,17 +1,21 @@
-"""Makes the Debian package of the released programs, looks at it, and installs it on a bare Debian.
+"""Makes the Debian packages of the released programs and of edfclinic, looks at them, and installs
+them on a bare Debian.
 
-    python3 -m checks.package [--bare FOLDER] [PACKAGE]
+    python3 -m checks.package [--bare FOLDER] [--before PACKAGE] [--clinic PACKAGE] [PACKAGE]
 
-bin/package makes it twice, in two places, times, time zones and languages, and both must have the
-same bytes; PACKAGE is looked at instead of these where it is named. It has the released programs,
-their man pages, the documents, the examples and the licences, and less than MOST bytes. Its
-copyright file names whom the notices name, and each crate without a licence. No link of its
-documents is dead, `lintian` finds no error, `man` no warning of the pages. As root and with
-debootstrap it is installed by `dpkg -i` on a Debian of the least packages, run there, by the
+bin/package and bin/package-clinic make each twice, in two places, times, time zones and languages,
+and both must have the same bytes; PACKAGE is looked at instead of these where it is named. It has
+the released programs, their man pages, the documents, the examples and the licences, and less than
+MOST bytes. Its copyright file names whom the notices name, and each crate without a licence. No
+link of its documents is dead, `lintian` finds no error, `man` no warning of the pages. As root and
+with debootstrap it is installed by `dpkg -i` on a Debian of the least packages, run there, by the
 commands that README, REFUSALS and examples/README show too, and removed again; where packages can
-be had the examples that write by EDFlib run there. FOLDER is such a Debian; else one is made, which
-takes minutes and the network, and is gone at the end. Without root or debootstrap it is unpacked
-here, `ldd` says what it lacks, and it is run here: the last lines say which of the ways was taken.
+be had the examples that write by EDFlib run there, and edfclinic's package is installed: without
+edfstore it is refused, and once both are purged the archive alone is left. FOLDER is such a Debian;
+else one is made, which takes minutes and the network, and is gone at the end. With --before the
+package of an earlier release is there first: a store that its README makes must be as it was.
+Without root or debootstrap it is unpacked here, `ldd` says what it lacks, and it is run here: the
+last lines say which of the ways was taken.
 
 Three controls must fail: a package without its copyright file has an error by lintian, one that
 needs a library that is not there and one with a byte changed are not installed. It needs dpkg-deb,
@@ -22,7 +26,8 @@ import re
 import shutil
 from pathlib import Path
 
-from checks.lib import arguments, installed, links, measure, model, printed, runs, serving, sessions
+from checks.lib import (arguments, installed, links, measure, model, printed, runs, serving,
+                        sessions, upgraded)
 from checks.lib.checks import Checks
 
 MOST = 2_400_000
@@ -53,20 +58,20 @@ def programs(folder: Path) -> Path:
     return folder
 
 
-def made(checks: Checks, folder: Path) -> Path:
-    """The package, made twice."""
-    given, packages = programs(folder / "programs"), []
+def made(checks: Checks, folder: Path, script: str, *given: Path) -> Path:
+    """The package that this script of `bin` makes, of these folders, made twice."""
+    packages = []
     places = ({"TZ": "UTC", "LC_ALL": "C"},
               {"TZ": "Pacific/Auckland", "LANG": "de_DE.UTF-8", "LC_ALL": ""})
     for nth, added in enumerate(places):
-        target = folder / f"made-{nth}"
-        for name in PROGRAMS:
-            os.utime(given / name, (EARLIER * (nth + 1), EARLIER))
-        line, mask = 'umask "$1"; "$0/bin/package" "$2" "$3"', ("022", "077")[nth]
-        measure.done("bash", "-c", line, arguments.TOP, mask, given, target, added=added,
-                     folder=(folder, "/")[nth])
+        target = folder / f"{script}-{nth}"
+        for path in (path for it in given for path in it.iterdir()):
+            os.utime(path, (EARLIER * (nth + 1), EARLIER))
+        line, mask = 'umask "$1"; shift; "$0" "$@"', ("022", "077")[nth]
+        measure.done("bash", "-c", line, arguments.TOP / "bin" / script, mask, *given, target,
+                     added=added, folder=(folder, "/")[nth])
         packages += list(target.iterdir())
-    checks.begin("the package")
+    checks.begin(f"the package of bin/{script}")
     checks.same("it is made twice, with the same name", packages[1].name, packages[0].name)
     checks.same("it has the same bytes, made twice",
                 packages[1].read_bytes() == packages[0].read_bytes(), True)
@@ -171,11 +176,13 @@ def with_a_byte_changed(package: Path, folder: Path) -> Path:
     return target
 
 
-def by_lintian(checks: Checks, package: Path, folder: Path) -> None:
-    lines = tags(package)
-    print(f"lintian: {len(errors(lines))} errors" + "".join(f"\n  {line}" for line in lines))
+def by_lintian(checks: Checks, package: Path, clinic: Path, folder: Path) -> None:
     checks.begin("lintian")
-    checks.same("errors", errors(lines), [])
+    for it in (package, clinic):
+        lines = tags(it)
+        print(f"lintian of {it.name}: {len(errors(lines))} errors",
+              *(f"  {line}" for line in lines), sep="\n")
+        checks.same(f"errors of {it.name}", errors(lines), [])
     wrong = errors(tags(changed("without-copyright", without_copyright, package, folder)))
     checks.same("control: the errors of a package without its copyright file have this one",
                 "E: edfstore: no-copyright-file" in wrong, True)
@@ -282,8 +289,8 @@ def in_sentences(checks: Checks, bare: Bare) -> None:
                 (True, refused, 0))
 
 
-def on_a_bare_debian(checks: Checks, package: Path, folder: Path, given) -> None:
-    bare = Bare(folder / "system", given)
+def on_a_bare_debian(checks: Checks, package: Path, clinic: Path, folder: Path, given) -> None:
+    bare = Bare(folder / "system", given.bare)
     release = (bare.root / "etc/debian_version").read_text().strip()
     count = bare.run("dpkg-query", "-W").out.count(b"\n")
     checks.begin("a bare Debian")
@@ -292,8 +299,12 @@ def on_a_bare_debian(checks: Checks, package: Path, folder: Path, given) -> None
         checks.same(f"control: {other.stem} is refused", bare.install(other) != 0, True)
         bare.run("dpkg", "--purge", "--force-all", "edfstore")
     checks.same("nothing is there", bare.installed(), [])
+    if given.before:
+        upgraded.make_store(checks, bare, given.before)
     checks.same("dpkg -i", bare.install(package), 0)
     checks.same("dpkg --verify", bare.run("dpkg", "--verify", "edfstore").out, b"")
+    if given.before:
+        upgraded.open_store(checks, bare)
     (bare.root / "root/night").mkdir()
     run_there(checks, "a bare Debian", bare.at_home, bare.root / "root/night")
     as_shown(checks, bare)
@@ -302,8 +313,9 @@ def on_a_bare_debian(checks: Checks, package: Path, folder: Path, given) -> None
         rendered(checks, name, bare.root)
     checks.same("dpkg -P", bare.run("dpkg", "-P", "edfstore").status, 0)
     checks.same("what is left", bare.installed(), [])
+    upgraded.tried(checks, bare, package, clinic)
     print(f"installed by dpkg -i on a bare Debian {release} of {count} packages "
-          f"({'given' if given else 'made by debootstrap'}), run there and removed")
+          f"({'given' if given.bare else 'made by debootstrap'}), run there and removed")
 
 
 def here(checks: Checks, root: Path, folder: Path) -> None:
@@ -324,6 +336,10 @@ def here(checks: Checks, root: Path, folder: Path) -> None:
 def main() -> None:
     parser = arguments.Parser(__doc__, programs=())
     parser.add_argument("--bare", type=arguments.path, metavar="FOLDER", help="a bare Debian")
+    parser.add_argument("--before", type=arguments.path, metavar="PACKAGE",
+                        help="that of an earlier release")
+    parser.add_argument("--clinic", type=arguments.path, metavar="PACKAGE",
+                        help="that of edfclinic; made here if left out")
     parser.add_argument("package", nargs="?", type=arguments.path, help="made here if left out")
     given = parser.read()
     measure.need("dpkg-deb", "lintian", "man", "readelf")
@@ -331,11 +347,12 @@ def main() -> None:
         folder, cases = Path(name), Path(name) / "cases"
         cases.mkdir()
         checks = Checks(Path("edfstore"), cases)
-        package = given.package or made(checks, folder)
+        package = given.package or made(checks, folder, "package", programs(folder / "programs"))
+        clinic = given.clinic or made(checks, folder, "package-clinic")
         root = contents(checks, package, folder)
-        by_lintian(checks, package, folder)
+        by_lintian(checks, package, clinic, folder)
         if os.geteuid() == 0 and (given.bare or shutil.which("debootstrap")):
-            on_a_bare_debian(checks, package, folder, given.bare)
+            on_a_bare_debian(checks, package, clinic, folder, given)
         else:
             here(checks, root, folder)
     checks.end()

@@ -94,6 +94,8 @@ CHECKS = (
     Check("split", "lines and files of edfruns", (EDFSTORE, EDFRUNS)),
     Check("fill", "recordings by chance, filled, cut and compared", (EDFRUNS,),
           counts=(300, 3_000)),
+    Check("upgrade", "stores that go on by another version", (EDFSTORE, EDFSERVE),
+          needs=("git", "tar", "xz", "x86-64"), is_for_long=True),
     Check("filled_store", "a filled file beside its night and its card", (EDFSTORE, EDFRUNS)),
     Check("split_stops", "splits that are stopped", (EDFRUNS,), counts=(90, 900)),
     Check("lines.shell", "lines that a person may type", needs=("sqlite3",)),

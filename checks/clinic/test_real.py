@@ -2,8 +2,8 @@
 
 It wants root and namespaces. The Debian is this one, or the one of --bare FOLDER, below an overlay
 in memory that is gone at the end: it has openssh-server, samba, smbclient, sudo, python3 and, for
-the second test, systemd and systemd-container. The programs there are those that are named, in a
-package of edfstore that is made of them."""
+the second test, systemd and systemd-container. The packages are those of --packages FOLDER, else
+they are made of the programs that are named."""
 import shutil
 import subprocess
 import tempfile
@@ -39,7 +39,7 @@ def root(request: Any, programs: Path) -> Iterator[Path]:
             given = f"lowerdir={lower},upperdir={folder}/upper,workdir={folder}/work"
             subprocess.run(["mount", "-t", "overlay", "clinic", "-o", given, folder / "root"],
                            check=True)
-            prepare(folder / "root/tried", programs)
+            prepare(folder / "root/tried", programs, request.config.option.packages)
             yield folder / "root"
         finally:
             for place in (folder / "root", folder):
@@ -56,16 +56,20 @@ def blocks() -> dict[str, str]:
     return found
 
 
-def prepare(tried: Path, programs: Path) -> None:
+def prepare(tried: Path, programs: Path, packages: str | None) -> None:
     tried.mkdir()
     for name in ("edfclinic", "r01", "r02", "r03", "tech"):     # where it is set up here, too
         ran("chroot", tried.parent, "userdel", name)
         ran("chroot", tried.parent, "groupdel", name)
     ran("chroot", tried.parent, "groupdel", "edfstaff")
-    for name, made in (("edfstore", ran(TOP / "bin/package", programs, tried)),
-                       ("edfclinic", ran(TOP / "bin/package-clinic", tried))):
-        assert made.status == 0, made
-        Path(made.out.decode().strip()).rename(tried / f"{name}.deb")
+    if not packages:
+        for words in ((TOP / "bin/package", programs), (TOP / "bin/package-clinic",)):
+            made = ran(*words, tried)
+            assert made.status == 0, made
+    machine = ran("dpkg", "--print-architecture").out.decode().strip()
+    for name, kind in (("edfstore", machine), ("edfclinic", "all")):
+        package, = Path(packages or tried).glob(f"{name}_*_{kind}.deb")
+        shutil.copy(package, tried / f"{name}.deb")
     shutil.copy(Path(__file__).with_name("real.sh"), tried)
     for name, heading in (("install", "Install"), ("recorder", "A new recorder"),
                           ("samba", "Samba")):

@@ -36,7 +36,9 @@ def written(checks: Checks, machine: Machine) -> None:
     checks.begin("the command that made edflib.edf")
     readme = (machine.root / f"{SHARED[1:]}/examples/README.md").read_text()
     line = readme.split("`cc ")[1].split("`")[0]
-    script = f"cp {SHARED}/examples/write_sample.c .\ncc {line}\nedfstore take :memory: edflib.edf"
+    # The compiler warns of names that a later EDFlib than Debian 12's calls otherwise.
+    script = (f"cp {SHARED}/examples/write_sample.c .\n{{ cc {line}\n}} 2>/root/said\n"
+              "edfstore take :memory: edflib.edf")
     checks.same(line, machine.run("bash", "-ec", f"cd /root\n{script}").outcome(),
                 (b"edflib.edf accepted new=8 known=0\n", b"", 0))
 
