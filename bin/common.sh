@@ -185,8 +185,8 @@ released_program() {
 # `release/dev`, which has none but for x86-64; else nothing is printed. And the path of the program
 # $2 for the machine $3 that lies in this place $1.
 kept_in() {
-  # The smaller digest comes first. No sources have both: those of release/dev end their version
-  # in -dev, and those of a release do not.
+  # The smaller digest comes first. No sources have both: release/dev is of what is not out, and
+  # bin/release takes it away.
   if [ "$1" = x86_64 ] && is_dev; then
     echo release/dev
   elif is_released && [ -n "$(released_archive "$1")" ]; then
