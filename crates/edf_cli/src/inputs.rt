@@ -17,7 +17,8 @@ pub trait Inputs {
     // The names whose readers were opened, in turn.
     ghost opened: { Self → List (List ℕ) };
 
-    /// Returns how many bytes the name stands for, where that is known before they are read.
+    /// Returns how many bytes the name stands for, where that is known before they are read. A file
+    /// may have others by then.
     fn length(&self, _name: &str) -> Option<u64>
         ensures { IfSome result
             (λ n. IfSome (bytes self.now _name.now) (λ known. length known ≡ n)) }

@@ -3,7 +3,7 @@ use Rattle.std.specs.Prelude.{ℕ, ◌-◌, ◌≤◌, ◌<◌, List, ℤ, pos, 
 use Rattle.edf_field.specs.Number.{scaled, fraction_len}
 
 -- The digital values from one that stands for `low` to one that stands for `high`, `steps` above
--- it, lie on a line: the one `n` above the first stands for this, times `steps` to be whole.
+-- it, lie on a line: the one `n` above the first stands for this, divided by `steps`.
 abbrev pub on_line : ℤ → ℤ → ℕ → ℕ → ℤ
 on_line low high steps n = (low *ℤ pos (steps - n)) +ℤ (high *ℤ pos n)
 

@@ -87,11 +87,12 @@ impl Model for Identity {
     ghost invariant = { λ i. IsIdentity i.bytes.items i.duration i.ordinary_bytes };
 }
 
-/// Adds to an identity's bytes the mark of its Startdate subfield, what follows that subfield, and
-/// the spaces that fill the part (EDF+, the local recording identification).
+/// Adds to an identity's bytes the mark of its Startdate subfield, `D` for a date and `X` for none;
+/// what follows that subfield, 59 bytes behind a date and 69 behind `X`; and behind a date ten
+/// spaces (EDF+, the local recording identification).
 ///
 /// # Errors
-/// Where memory ran out.
+/// Where memory ran out. Then `out` may have some of these bytes.
 pub fn push_dated(out: &mut Vec<u8>, dated: bool, after: &[u8]) -> Result<(), AllocError>
     ensures { OnOk result (out.new.items ≡ out.old.items ++ dated_bytes dated after.now) }
 {

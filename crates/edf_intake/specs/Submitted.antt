@@ -1,5 +1,5 @@
 -- One submission: its answer, and the store after it. Each case says what the input parses to and
--- what the answer is, then what is held after the call, and last the rows of a crash after it.
+-- what the answer is, then what is held after the call, and last the rows that a crash may leave.
 use Rattle.std.specs.Prelude.{◌≡◌, ◌⊎◌, false, List, None, Ok, Err, IsTrue}
 use Rattle.sqlite_trees.specs.declared.store.Store.{Ghosts}
 use Rattle.sqlite_trees.specs.Tree.{Trees}

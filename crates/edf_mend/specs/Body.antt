@@ -95,7 +95,7 @@ abbrev pub record_size : Bool → Layout → ℕ
 record_size timed l = if timed then l.record_bytes else 2 * samples_in_all l.key.signals
 
 -- A data record says when it starts: its samples are those bytes, and its start and annotations
--- what a strict reading gets from its blocks.
+-- what a strict reading gets from its blocks. `RecordsReadAs` has its length.
 pub record TimedRecordReadsAs (l : Layout) (place : Place) (nth : ℕ) (bytes : List ℕ)
     (r : DataRecord) (changes : List FieldChange) : Type 0 where
   pub samples : r.samples ≡ ordinary_bytes l bytes
@@ -119,6 +119,7 @@ RecordReadsAs true l place nth bytes r changes = TimedRecordReadsAs l place nth 
 RecordReadsAs false l place nth bytes r changes =
     PlainRecordReadsAs l place bytes r × (changes ≡ [])
 
+-- They come in turn, and the first is the nth.
 abbrev pub RecordsReadAs : Bool → Layout → Place → ℕ → List (List ℕ) → List DataRecord →
     List FieldChange → Type 0
 RecordsReadAs timed l place nth [] [] changes = changes ≡ []
@@ -149,7 +150,7 @@ HeaderSizeFits fixed n records left_out =
     ⊎ (IsNumber (numeral (count_field fixed)) records × (left_out ≡ 0))
 
 -- The bytes behind the header are whole data records, and less than one more, which is left out.
--- Where nothing says when a data record starts, no byte is, but a person says so.
+-- Where nothing says when a data record starts, no byte is, unless a person asks for all.
 pub record BodyReadsAs (w : Wanted) (timed : Bool) (fixed : List ℕ) (n : ℕ) (l : Layout)
     (body : List ℕ) (records : List DataRecord) (left_out : ℕ) : Type 0 where
   pub pieces : List (List ℕ)

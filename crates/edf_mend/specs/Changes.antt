@@ -35,6 +35,7 @@ abbrev pub changes_of_row : ℕ → ℕ → List ℕ → List ℕ → List Field
 changes_of_row n i old new = flat_map (λ f. changed f.0 (i + 1) (256 + n * f.0 + i * f.1)
     (field old f.0 f.1) (field new f.0 f.1)) fields
 
+-- The last number is how many signals are compared, from the first on.
 abbrev pub changes_of_signals : ℕ → List ℕ → ℕ → List ℕ → ℕ → List FieldChange
 changes_of_signals n old count new zero = []
 changes_of_signals n old count new (suc i) = changes_of_signals n old count new i

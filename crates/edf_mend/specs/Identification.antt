@@ -17,7 +17,8 @@ IsPlain field = All IsPrintable (spaced field) × IsPatient (spaced field)
 abbrev pub code_of : List ℕ → List ℕ
 code_of field = first_subfield (spaced field)
 
--- The field names somebody, once sex and birthdate are in capitals and the name is in ASCII.
+-- The field names somebody: the bytes of its code are visible ASCII, and in capitals it has a sex,
+-- a birthdate and a name.
 abbrev pub IsNamed : List ℕ → Type 0
 IsNamed field = All IsVisible (code_of field) × IsPatient (capitals (spaced field))
 
@@ -84,7 +85,7 @@ abbrev pub IsPlainRecording : List ℕ → Type 0
 IsPlainRecording field = All IsPrintable (spaced field)
     × ((day : Option ℤ) × (after : List ℕ) × IsRecording (spaced field) day after)
 
--- Subfields are the word, a date and codes, in any letters.
+-- Subfields are the word, a date or X, as a birthdate is written, and codes, in any letters.
 abbrev pub AreDated : List (List ℕ) → Type 0
 AreDated (word ∷ date ∷ after) =
     (capitals word ≡ codes "STARTDATE") × IsBirthdate (capitals date)
@@ -100,10 +101,11 @@ date_of field = capitals (slice_index_or (subfields (spaced field)) 1 [])
 abbrev pub codes_of : List ℕ → List (List ℕ)
 codes_of field = drop 2 (subfields (spaced field))
 
--- Of such a field come its date, its codes in ASCII, and X for each that it lacks then.
+-- X stands for each code that lacks.
 abbrev pub lacking_codes : List (List ℕ) → List ℕ
 lacking_codes after = flat_map (λ x. x) (replicate (3 - length after) (codes " X"))
 
+-- Of such a field come its date, its codes in ASCII, and X for each that it lacks then.
 abbrev pub IsRedated : List ℕ → List ℕ → Type 0
 IsRedated old text = let spelled = spelling (joined_by 32 (codes_of old)) in HasDate old
     × (text ≡ codes "Startdate " ++ (date_of old ++ (spelled ++ lacking_codes (subfields spelled))))
@@ -138,8 +140,8 @@ mark = codes "mended"
 
 -- The field has a date of its own, and behind it these codes, but for the mark.
 abbrev pub HasCodes : List ℕ → List (List ℕ) → Type 0
-HasCodes field codes = HasDate field
-    × ((codes ≡ codes_of field) ⊎ (codes ≡ codes_of field ++ mark ∷ []))
+HasCodes field these = HasDate field
+    × ((these ≡ codes_of field) ⊎ (these ≡ codes_of field ++ mark ∷ []))
 
 -- Where nobody is named, these codes stay.
 pub record StaysBehindDate (old new : List ℕ) : Type 0 where

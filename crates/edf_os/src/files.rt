@@ -198,7 +198,7 @@ impl<'rt> Inputs for Files<'rt> {
 
     ghost opened = { λ files. map string_bytes files.names.items };
 
-    /// Tells it of regular files, where these alone are opened.
+    /// Returns the length of a regular file, where these alone are opened.
     fn length(&self, name: &str) -> Option<u64> {
         if !self.is_regular {
             return None;

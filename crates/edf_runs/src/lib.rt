@@ -1,8 +1,9 @@
 //! The runs of a recording, its longest stretches of data records without a gap, and the EDF+C file
 //! of each, which readers open that refuse EDF+D.
 //!
-//! - [`read_outline`]: an [`Outline`], all of a file but its samples; [`by_onset`]: with each
-//!   annotation where its onset is; [`count_outside`]: of how many no data record has it.
+//! - [`read_outline`], [`read_outline_of`]: an [`Outline`], all of a file but its samples;
+//!   [`by_onset`]: with each annotation where its onset is; [`count_outside`]: of how many no data
+//!   record has it.
 //! - [`list_outline`]: a [`Listing`] of its [`Run`]s; [`add_record`]: how they grow, for a caller
 //!   that reads itself.
 //! - [`reopen_listed`], [`write_run`]: a second reading, over one run after another whose files are

@@ -40,7 +40,7 @@ pub record IsSoundStore (cap : ℕ) (s : State) : Type 0 where
       × RepresentCommitted cap s.committed.trees h
 
 -- what is committed beside our two tables is as it was, where the connection is still open after
--- the call; so it is after a crash that follows the call
+-- the call; a crash after the call leaves that so too, or what a crash before it could leave
 pub record KeepsOtherTables (old new : State) : Type 0 where
   pub was_open : HasCleanDisk new → IsTrue new.is_open → IsTrue old.is_open
   pub others : HasCleanDisk new → IsTrue new.is_open → KeepsOthers old.committed new.committed

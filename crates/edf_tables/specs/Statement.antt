@@ -1,5 +1,5 @@
--- A statement changes the connection that it runs on. All but `IsCrashSafe` is said of disks that
--- return what was written.
+-- A statement changes the connection that it runs on. All is said of disks that return what was
+-- written.
 use Rattle.std.specs.Prelude.{Result, IfOk, OnOk, OnErr}
 use Rattle.sqlite_trees.specs.declared.store.Store.{Ghosts}
 use Rattle.sqlite_trees.specs.Tree.{Trees}

@@ -29,7 +29,7 @@ pub record KeepsShown (old new : State) : Type 0 where
   pub mode : IsTrue new.in_transaction → IsTrue old.in_transaction
 
 -- a part of the check reads and changes no row: on success the rows are as they were; on failure
--- what is committed stays; a crash in it commits nothing
+-- what is committed stays; a crash after it finds nothing committed by it
 pub record OnlyChecks {S X : Type 0} (g : Ghosts S) (old new : Held S) (result : Result X Error) :
     Type 0 where
   pub same : ChangesOnOk g old new result KeepsRows
