@@ -5,7 +5,6 @@ top=$(cd "$(dirname "${BASH_SOURCE[0]}")/.." && pwd)
 programs=(edfstore edfruns edfserve edfmend)
 page_crate=edf_page_exports
 release=$top/release
-dev=$release/dev
 
 # Where the program $1 is when it was built here, for x86-64 or for the machine $2; for machines
 # that no program is made for it prints nothing. And where the page is.
@@ -63,17 +62,10 @@ page_files() {
   } | LC_ALL=C sort)
 }
 
-# The SHA-256 of the names and the contents of the files that are read.
-digest() {
-  (cd "$top" && LC_ALL=C sort -u | xargs -d '\n' sha256sum) | sha256sum | cut -d ' ' -f 1
-}
-
-# That of all that a release is made from, and that of the programs for x86-64 alone.
+# The SHA-256 of the names and the contents of all files that a release is made from.
 sources_digest() {
-  { source_files "${programs[@]}" && port_files aarch64 && page_files; } | digest
-}
-programs_digest() {
-  source_files "${programs[@]}" | digest
+  (cd "$top" && { source_files "${programs[@]}" && port_files aarch64 && page_files; } |
+    LC_ALL=C sort -u | xargs -d '\n' sha256sum) | sha256sum | cut -d ' ' -f 1
 }
 
 # The version that the sources say. One under development ends in -dev.
@@ -142,12 +134,9 @@ names_arm64() {
   [[ $1 =~ ^logic=proved\ .*target=aarch64-unknown-linux-gnu\  && ! $1 =~ (hides|bugs)= ]]
 }
 
-# Whether the release was made from the sources that lie here, and whether release/dev was.
+# Whether the release was made from the sources that lie here.
 is_released() {
   [ -f "$release/SOURCES" ] && [ "$(cat "$release/SOURCES")" = "$(sources_digest)" ]
-}
-is_dev() {
-  [ -f "$dev/SOURCES" ] && [ "$(cat "$dev/SOURCES")" = "$(programs_digest)" ]
 }
 
 # The archive of programs for the machine $1 that SHA256SUMS names, if it names one.
@@ -155,60 +144,35 @@ released_archive() {
   sed -n "s/^[0-9a-f]*  \(.*-$1-linux\.tar\.xz\)\$/\1/p" "$release/SHA256SUMS"
 }
 
-# Unpacks the archive $2 of the folder $1 once, and prints the path of the program $3 of it. The
-# archive must have the sum that SHA256SUMS there says.
-unpacked_program() {
-  local sum folder new
-  sum=$(sed -n "s/  $2\$//p" "$1/SHA256SUMS")
+# Unpacks the released archive for x86-64, or for the machine $2, once, and prints the path of the
+# program $1 of it. The archive must have the sum that SHA256SUMS says.
+released_program() {
+  local archive sum folder new
+  archive=$(released_archive "${2:-x86_64}")
+  [ -n "$archive" ] || return 1
+  sum=$(sed -n "s/  $archive\$//p" "$release/SHA256SUMS")
   folder=$release/out/$sum
-  if [ ! -x "$folder/$3" ]; then
-    (cd "$1" && echo "$sum  $2" | sha256sum --quiet -c >&2) || return 1
+  if [ ! -x "$folder/$1" ]; then
+    (cd "$release" && echo "$sum  $archive" | sha256sum --quiet -c >&2) || return 1
     mkdir -p "$release/out" && new=$(mktemp -d "$release/out/new.XXXXXX") || return 1
-    if ! tar -xJf "$1/$2" -C "$new" --strip-components=1; then
+    if ! tar -xJf "$release/$archive" -C "$new" --strip-components=1; then
       rm -rf "$new"
       return 1
     fi
     # Another run may have been first: then its folder stays.
     mv -T "$new" "$folder" 2>/dev/null || rm -rf "$new"
   fi
-  echo "$folder/$3"
-}
-
-# The path of the released program $1 for x86-64, or for the machine $2.
-released_program() {
-  local archive
-  archive=$(released_archive "${2:-x86_64}")
-  [ -n "$archive" ] && unpacked_program "$release" "$archive" "$1"
-}
-
-# Where programs for the machine $1 lie that were made from these sources: in `release`, else in
-# `release/dev`, which has none but for x86-64; else nothing is printed. And the path of the program
-# $2 for the machine $3 that lies in this place $1.
-kept_in() {
-  # The smaller digest comes first. No sources have both: release/dev is of what is not out, and
-  # bin/release takes it away.
-  if [ "$1" = x86_64 ] && is_dev; then
-    echo release/dev
-  elif is_released && [ -n "$(released_archive "$1")" ]; then
-    echo release
-  fi
-}
-kept_program() {
-  case $1 in
-    release) released_program "$2" "$3" ;;
-    release/dev) unpacked_program "$dev" programs.tar.xz "$2" ;;
-    *) return 1 ;;
-  esac
+  echo "$folder/$1"
 }
 
 # The path of the program $1 to run on this machine, or on the machine $2: the one that was built
-# here, where no source is newer; else the one of the release or of release/dev that was made from
-# these sources; else, for x86-64, it is proved and built first.
+# here, where no source is newer; else the released one, where the release was made from these
+# sources; else, for x86-64, it is proved and built first.
 chosen_program() {
   local machine=${2:-$(uname -m)}
   if is_fresh "$1" "$machine"; then
     built "$1" "$machine"
-  elif kept_program "$(kept_in "$machine")" "$1" "$machine"; then
+  elif is_released && released_program "$1" "$machine"; then
     :
   elif [ "$machine" != x86_64 ]; then
     echo "$1: of these sources there is no program for $machine here; for arm64, which is" \
@@ -217,7 +181,7 @@ chosen_program() {
   else
     echo "bin/$1: the programs in release/ are of other sources than these. To run them all the" \
       "same, stop this and unpack $release/$(released_archive x86_64)" >&2
-    # Status 1 says that the kept bytes are others: what was proved here is run all the same.
+    # Status 1 says that the released bytes are others: what was proved here is run all the same.
     "$top/bin/build" "$1" >&2 </dev/null || [ $? = 1 ] || return 3
     built "$1"
   fi

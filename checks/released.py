@@ -1,31 +1,29 @@
-"""Runs the first commands of a fresh clone, and the comparison of a program with the one that is
-kept in the repository.
+"""Runs the first commands of a fresh clone, and the comparison of a program with the released one.
 
     python3 -m checks.released
 
-It clones the state that is committed here: release/ or release/dev must have been made from its
-sources. It needs git, tar and xz; no toolchain is on the path. In the clone `bin/edfstore` and
-`bin/edfruns` answer within SECONDS, and as the plain model does, and each program has the version
-of the sources. Then a small script is the toolchain's command `rt`: it prints the build that
-TOOLCHAIN names, and `rt ci` does nothing, or fails. With the kept programs where a build leaves
-them `bin/compare` and `.ci/run` end with status 0. They end with another status where one byte of a
-program is changed, and `.ci/run` where `rt ci` fails; where the sources or the toolchain are
-others, or no program is there, a line says so. Where the machine says that it is one for arm64, the
-scripts in `bin` take the programs for that, and none of release/dev.
+It clones the state that is committed here: the release must have been made from its sources. It
+needs git, tar and xz; no toolchain is on the path. In the clone `bin/edfstore` and `bin/edfruns`
+answer within SECONDS, and as the plain model does, and each program has the version of the sources.
+Then a small script is the toolchain's command `rt`: it prints the build that TOOLCHAIN names, and
+`rt ci` does nothing, or fails. With the released programs where a build leaves them `bin/compare`
+and `.ci/run` end with status 0. They end with another status where one byte of a program is
+changed, and `.ci/run` where `rt ci` fails; where the sources or the toolchain are others, or no
+program is there, a line says so. Where the machine says that it is one for arm64, the scripts in
+`bin` take the programs for that.
 
-Where dpkg-deb is here `bin/release` of released programs under a version of its own writes the same
-release twice, and `bin/release --documents` too, also once it is committed. With another word it is
-refused then, and written as the next revision; that of the commit before is refused still. As it is
-committed here it is never written with other bytes; a line tells what is done. None is written
-where a verdict does not name arm64. Of a version under development `bin/release --dev` writes the
-same release/dev twice, and nothing else; `bin/release` writes nothing.
+Where dpkg-deb is here `bin/release` of these programs under a version of its own writes the same
+release twice, a clone in another folder too, and `bin/release --documents`, also once it is
+committed. With another word it is refused then, and written as the next revision; that of the
+commit before is refused still. As it is committed here it is never written with other bytes; a line
+tells what is done. None is written where a verdict does not name arm64, or where the sources have
+another version.
 """
 import itertools
 import os
 import re
 import shutil
 import sys
-from dataclasses import dataclass
 from pathlib import Path
 
 from checks.lib import arguments, measure, model, printed, runs
@@ -39,11 +37,11 @@ PROGRAMS = ("edfstore", "edfruns", "edfserve", "edfmend")
 PAGE, BUILT_PAGE = "edfstore.html", "crates/edf_page_exports/out"
 MACHINES = {"x86_64": ("crates/{0}/out/{0}", 62), "aarch64": ("ports/arm64/out/{0}", 183)}
 NAMED = "logic=proved main= target=aarch64-unknown-linux-gnu sum=0\n"
-SAME = "{}: {}, as it was built here, has the same bytes\n"
-OTHER = "{}: {}, as it was built here, does NOT have the same bytes\n"
-NONE = ("{}: no {} lies here to compare: rt ci kept what an earlier run on this machine "
+SAME = "release: {}, as it was built here, has the same bytes\n"
+OTHER = "release: {}, as it was built here, does NOT have the same bytes\n"
+NONE = ("release: no {} lies here to compare: rt ci kept what an earlier run on this machine "
         "proved and ran\n")
-OTHER_SOURCES = "release: neither it nor release/dev was made from these sources\n"
+OTHER_SOURCES = "release: made from other sources than these\n"
 NO_TOOLCHAIN = ("bin/build: this takes the toolchain of release/TOOLCHAIN, whose command 'rt' is "
                 "not on the path\n")
 REFUSED = ("bin/release: release/edfstore-{}-x86_64-linux.tar.xz is committed with other bytes, "
@@ -59,25 +57,9 @@ esac
 """
 
 
-@dataclass(frozen=True)
-class Kept:
-    """Where the programs of the committed sources are, the machines that they are for, and what
-    bin/compare compares."""
-    place: str
-    machines: tuple
-    compared: tuple
-
-    def lines(self, line: str, other: str = "", other_line: str = OTHER) -> str:
-        """The line of each file, but for one that has another."""
-        return "".join((other_line if name == other else line).format(self.place, name)
-                       for name in self.compared)
-
-    def toolchain(self) -> str:
-        return (arguments.TOP / self.place / "TOOLCHAIN").read_text().strip()
-
-
-RELEASE = Kept("release", tuple(MACHINES), (*PROGRAMS, PAGE))
-DEV = Kept("release/dev", ("x86_64",), PROGRAMS)
+def comparisons(other: str = "") -> str:
+    """What bin/compare prints where no file but this one has other bytes."""
+    return "".join((OTHER if name == other else SAME).format(name) for name in (*PROGRAMS, PAGE))
 
 
 class Clones:
@@ -109,10 +91,6 @@ class Clones:
     def told(self, clone: Path, line: str) -> str:
         """What a line of the shell prints that uses the functions of bin/common.sh."""
         return self.run(clone, "bash", "-c", f". bin/common.sh && {line}").out.decode().strip()
-
-    def kept(self) -> "Kept | None":
-        place = self.told(self.fresh(), "kept_in x86_64")
-        return {it.place: it for it in (RELEASE, DEV)}.get(place)
 
 
 def first_commands(checks: Checks, clones: Clones) -> None:
@@ -157,28 +135,28 @@ def change_a_source(clone: Path) -> None:
         source.write("// another\n")
 
 
-def built(clones: Clones, kept: Kept) -> Path:
-    """A clone with the kept programs, and the released page, where `rt ci`, ports/arm64/build and
-    bin/page leave what they built."""
+def built(clones: Clones) -> Path:
+    """A clone with the released programs and page where `rt ci`, ports/arm64/build and bin/page
+    leave what they built."""
     clone = clones.fresh()
-    for name, machine in itertools.product(PROGRAMS, kept.machines):
-        target = clone / MACHINES[machine][0].format(name)
+    for name, (machine, (place, _)) in itertools.product(PROGRAMS, MACHINES.items()):
+        target = clone / place.format(name)
         target.parent.mkdir(exist_ok=True)
-        shutil.copy(clones.told(clone, f"kept_program {kept.place} {name} {machine}"), target)
+        shutil.copy(clones.told(clone, f"released_program {name} {machine}"), target)
         target.with_suffix(".verdict").write_text(NAMED)
     (clone / BUILT_PAGE).mkdir()
     shutil.copy(clone / "release" / PAGE, clone / BUILT_PAGE)
     return clone
 
 
-def on_machines(checks: Checks, clones: Clones, kept: Kept) -> None:
+def on_machines(checks: Checks, clones: Clones) -> None:
     """Which program the scripts take, by what the machine says of itself."""
     clone, uname = clones.fresh(), clones.stub / "uname"
     for machine, name in itertools.product((*MACHINES, "armv7l"), PROGRAMS):
         uname.write_text(OTHER_MACHINE.format(machine))
         uname.chmod(0o755)
         ran = clones.run(clone, "bash", "-c", f". bin/common.sh && chosen_program {name}")
-        kinds = [MACHINES[machine][1]] if machine in kept.machines else []
+        kinds = [MACHINES[machine][1]] if machine in MACHINES else []
         found = [kind_of(Path(line)) for line in ran.out.decode().splitlines()]
         checks.same(f"{name} on {machine}", (found, ran.status), (kinds, 0 if kinds else 3))
     uname.unlink()
@@ -197,31 +175,21 @@ def compared(checks: Checks, clones: Clones, what: str, clone: Path, out: str) -
     checks.same(f".ci/run, {what}: the last lines", gate.out.decode()[-len(out):], out)
 
 
-def release_of(clone: Path, place: str = RELEASE.place) -> dict:
-    files = [path for path in (clone / place).iterdir() if path.is_file()]
+def release_of(clone: Path) -> dict:
+    files = [path for path in (clone / "release").iterdir() if path.is_file()]
     return {path.name: path.read_bytes() for path in files}
 
 
-def refused(checks: Checks, clones: Clones, clone: Path, *words: str) -> None:
-    """`bin/release` with these words, which leaves all as it is."""
-    before = release_of(clone)
-    ran = clones.run(clone, "bin/release", *words)
-    checks.same(f"bin/release {' '.join(words)}: the status and how many lines",
-                (ran.status, ran.err.count(b"\n")), (3, 1))
-    checks.same("the release is as it was", release_of(clone) == before, True)
-
-
-def dev_again(checks: Checks, clones: Clones, clone: Path) -> None:
-    """What `bin/release --dev` writes, twice."""
-    before, committed, written = release_of(clone), release_of(clone, DEV.place), []
-    for _ in range(2):
-        checks.same("bin/release --dev: the status",
-                    clones.run(clone, "bin/release", "--dev").status, 0)
-        written.append(release_of(clone, DEV.place))
-    checks.same("release/dev has the committed bytes, twice", written == [committed] * 2, True)
-    checks.same("its files", sorted(committed),
-                ["SHA256SUMS", "SOURCES", "TOOLCHAIN", "programs.tar.xz"])
-    checks.same("the release is as it was", release_of(clone) == before, True)
+def of_another_version(checks: Checks, clones: Clones, clone: Path) -> None:
+    """A heading of CHANGELOG that the sources do not have, which is put back."""
+    committed, changelog = release_of(clone), clone / "CHANGELOG.md"
+    before = changelog.read_text()
+    changelog.write_text(re.sub("^## .*", "## 0.1.0, 2026-11-29", before, count=1, flags=re.M))
+    said = f"CHANGELOG begins with 0.1.0, and the sources say {clones.told(clone, 'source_version')}"
+    checks.compare("bin/release of another version", clones.run(clone, "bin/release"), "",
+                   f"bin/release: {said}\n", 3)
+    checks.same("the release is as it was", release_of(clone) == committed, True)
+    changelog.write_text(before)
 
 
 def not_named(checks: Checks, clones: Clones, clone: Path) -> None:
@@ -290,7 +258,11 @@ def written_again(checks: Checks, clones: Clones, clone: Path, version: str) -> 
     checks.same("once it is committed: the status",
                 clones.run(clone, "bin/release", "--documents").status, 0)
     written.append(release_of(clone))
-    checks.same("the release has the same bytes", written[1:] == written[:1] * 3, True)
+    elsewhere = built(clones)
+    begin_version(elsewhere, REVISION)
+    checks.same("in another folder: the status", clones.run(elsewhere, "bin/release").status, 0)
+    written.append(release_of(elsewhere))
+    checks.same("the release has the same bytes", written[1:] == written[:1] * 4, True)
     archives = [f"edfstore-{version}-{machine}-linux.tar.xz" for machine in sorted(MACHINES)]
     packages = [f"edfstore_{version}_{machine}.deb" for machine in ("amd64", "arm64")]
     packages.append(f"edfclinic_{version}_all.deb")
@@ -300,8 +272,7 @@ def written_again(checks: Checks, clones: Clones, clone: Path, version: str) -> 
         checks.same(name, written[0][name], before[name])
     checks.same("the page says the version",
                 f"\n<p>edfstore {version}. ".encode() in written[0][PAGE], True)
-    checks.compare("bin/compare", clones.run(clone, "bin/compare"),
-                   RELEASE.lines(SAME), "", 0)
+    checks.compare("bin/compare", clones.run(clone, "bin/compare"), comparisons(), "", 0)
 
 
 def one_content(checks: Checks, clones: Clones, clone: Path, version: str, revision: int) -> None:
@@ -326,7 +297,7 @@ def one_content(checks: Checks, clones: Clones, clone: Path, version: str, revis
     checks.same("the release is as it was", release_of(clone) == last, True)
 
 
-def changed(checks: Checks, clones: Clones, clone: Path, name: str, kept: Kept) -> None:
+def changed(checks: Checks, clones: Clones, clone: Path, name: str) -> None:
     """The comparison where one byte of a program is another, which is put back."""
     program = clone / "crates" / name / "out" / name
     data = bytearray(program.read_bytes())
@@ -335,10 +306,10 @@ def changed(checks: Checks, clones: Clones, clone: Path, name: str, kept: Kept) 
     program.write_bytes(data)
     ran = clones.run(clone, "bin/compare")
     lines = ran.out.decode().splitlines(keepends=True)
-    ours = "".join(line for line in lines if line.startswith(f"{kept.place}:"))
-    others = [line for line in lines if not line.startswith(f"{kept.place}:")]
+    ours = "".join(line for line in lines if line.startswith("release:"))
+    others = [line for line in lines if not line.startswith("release:")]
     case = f"a byte of {name} is changed"
-    checks.same(f"bin/compare, {case}", (ours, ran.status), (kept.lines(SAME, name), 1))
+    checks.same(f"bin/compare, {case}", (ours, ran.status), (comparisons(name), 1))
     checks.same(f"which byte, {case}", [f" differ: byte {at + 1}," in line for line in others],
                 [True])
     checks.same(f".ci/run, {case}", clones.run(clone, ".ci/run").status, 1)
@@ -346,29 +317,25 @@ def changed(checks: Checks, clones: Clones, clone: Path, name: str, kept: Kept) 
     program.write_bytes(data)
 
 
-def comparison(checks: Checks, clones: Clones, kept: Kept) -> None:
-    checks.begin("the comparison with what is kept")
-    toolchain = kept.toolchain()
+def comparison(checks: Checks, clones: Clones) -> None:
+    checks.begin("the comparison with the release")
+    toolchain = (arguments.TOP / "release/TOOLCHAIN").read_text().strip()
     clones.toolchain(toolchain)
-    none = "".join(NONE.format(kept.place, name) for name in PROGRAMS)
-    compared(checks, clones, "no programs", clones.fresh(), none)
-    clone = built(clones, kept)
-    compared(checks, clones, "what is kept", clone, kept.lines(SAME))
-    if kept == DEV:
-        refused(checks, clones, clone)
-        dev_again(checks, clones, clone)
-    elif shutil.which("dpkg-deb"):
-        refused(checks, clones, clone, "--dev")
+    compared(checks, clones, "no programs", clones.fresh(), "".join(map(NONE.format, PROGRAMS)))
+    clone = built(clones)
+    compared(checks, clones, "what is released", clone, comparisons())
+    if shutil.which("dpkg-deb"):
         as_committed(checks, clones, clone)
+        of_another_version(checks, clones, clone)
         version = begin_version(clone, REVISION)
         not_named(checks, clones, clone)
         written_again(checks, clones, clone, version)
         one_content(checks, clones, clone, version, REVISION)
     for name in PROGRAMS:
-        changed(checks, clones, clone, name, kept)
+        changed(checks, clones, clone, name)
     clones.toolchain(f"{toolchain} and another")
     compared(checks, clones, "another toolchain", clone,
-             f"{kept.place}: made by another toolchain: {toolchain}\n")
+             f"release: made by another toolchain: {toolchain}\n")
     clones.toolchain(toolchain, status=1)
     checks.same(".ci/run, a gate that fails", clones.run(clone, ".ci/run").status, 1)
     clones.toolchain(toolchain)
@@ -384,14 +351,11 @@ def main() -> None:
         folder.mkdir()
         cases.mkdir()
         clones, checks = Clones(folder), Checks(Path("edfstore"), cases)
-        kept = clones.kept()
-        if kept is None:
-            sys.exit("neither release/ nor release/dev is of the sources that are committed here: "
-                     "bin/release makes the one, bin/release --dev the other")
-        print(f"{kept.place} is of these sources")
+        if clones.run(clones.fresh(), "bash", "-c", ". bin/common.sh && is_released").status:
+            sys.exit("the state that is committed here is no released one: bin/release makes it so")
         first_commands(checks, clones)
-        on_machines(checks, clones, kept)
-        comparison(checks, clones, kept)
+        on_machines(checks, clones)
+        comparison(checks, clones)
     checks.end()
 
 
