@@ -1,7 +1,7 @@
 /* Writes a short EDF+ recording with EDFlib: eight data records of one second, an EEG and a
    respiration signal, and annotations with and without a duration.
 
-   cc write_sample.c -o write_sample -ledf && ./write_sample edflib.edf */
+   cc write_sample.c -o write_sample -ledf -lm && ./write_sample edflib.edf */
 #include <edflib.h>
 #include <math.h>
 #include <stdio.h>

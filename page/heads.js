@@ -45,7 +45,7 @@ function startOf({ head }) {
 
 // Whom a patient field names: the code, and the name and the birthdate where they are there.
 function personIn({ head }) {
-  const [code, , born = "X", ...names] = field(head, "patient").split(" ");
+  const [code, , born = "X", ...names] = field(head, "patient").trim().split(/ +/);
   const name = names.join(" ").replace(/_/g, " ") || "X";
   return (code === "X" ? "without a code" : code) + (name === "X" ? "" : `, ${name}`) +
     (born === "X" ? "" : `, born ${born.replace(/^0/, "").replace(/-(.)(.*)-/,

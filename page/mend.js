@@ -5,6 +5,9 @@ const inWords = (line) =>
   pairsIn("faults").reduce((text, [is, said]) => text.replace(is, said), line);
 // Whether a mended file is of another recording, by its lines.
 const isRenamed = (ledger) => /^recording .* mended"$/m.test(ledger);
+// Which text of page.html says whether it joins a recording that is here.
+const placeOf = ({ out }, head) => !now.recordings.length ? "" : isRenamed(out) ? "own"
+  : now.recordings.some((it) => isAlike(it, { head })) ? "joins" : "";
 
 // What edfmend is told: the name of the new file, then the values of --patient, --set-patient,
 // --deidentify, --startdate and --starttime, and any text for --all.
@@ -21,10 +24,13 @@ async function showMended(box, title, good) {
   table(box, `${all}; samples stay as they are`, ["File", "Patient", "Starts"], heads,
     (head, nth) => [good[nth].file.name, personIn({ head }), when(startOf({ head }))]);
   made("pre", ledger.slice(0, 20_000), fold("Every change", box));
-  const isOwn = isRenamed(ledger), lacks = /^signals at=/m.test(ledger);
-  if (now.recordings.length > 0) made("p", wordsAt(isOwn ? "own" : "joins"), box,
-    { className: isOwn ? "bad" : "" });
-  if (lacks) hint(wordsAt("no-annotations"), box);
+  ["own", "joins"].forEach((place) => {
+    const some = good.filter((it, nth) => placeOf(it, heads[nth]) === place);
+    if (some.length === 0) return;
+    const of = some.length < good.length ? `${named(some.map(({ file }) => file))}: ` : "";
+    made("p", of + wordsAt(place), box, { className: place === "own" ? "bad" : "" });
+  });
+  if (/^signals at=/m.test(ledger)) hint(wordsAt("no-annotations"), box);
   const buttons = buttonsIn(box), gone = good.map(({ file }) => file);
   button(good.length === 1 ? "Use it" : `Use these ${counted(good.length)}`, buttons, () =>
     take(good.map(({ file: { own, path, night }, blob }, nth) => ({ own: `${own} (mended)`,

@@ -149,7 +149,7 @@ def closes(it: Technician) -> None:
     be closed."""
     it.press("Mend it: twice.edf")
     it.says("Its number of data records is wrong, or another file is behind it.",
-            "All that is there are data records of this file: use them")
+            "All data records that are there belong to this file: use them")
     it.hands.use("button", "Close")
     it.press("Mend it: label.edf")
     said = "This page can't mend it: get it again, or remove it."
@@ -184,6 +184,22 @@ def mended_or_not(it: Technician) -> None:
     it.looks("two recordings")
     title = "Patient P7, born 2 May 1951, investigation N1"
     it.starts_over(title, title)
+
+
+def mended_together(it: Technician) -> None:
+    """Of pieces that are mended at once one joins the night that is there, by their names."""
+    it.open()
+    strokes = [piece(60, start, startdate="02/03/02", **named(code))
+               for start, code in (("22.01.00", "P7"), ("22.02.00", "P8"))]
+    it.chooses("Choose files", written(it.folder / "together", [
+        ("good.edf", piece(60, "22.00.00", **named("P7"))),
+        *zip(("own.edf", "other.edf"), strokes)]))
+    it.press("Mend these 2…")
+    it.says("own.edf P7, born 2 May 1951 22:01 on 2 Mar 2002", f"own.edf: {JOINS}")
+    text = it.bench.browser.value("document.getElementById('results').innerText")
+    it.same("the other one is of no night here",
+            [part in text for part in (f"other.edf: {JOINS}", IS_OWN)], [False, False])
+    it.starts_over("Patient P7, born 2 May 1951, investigation N1")
 
 
 def alike(it: Technician) -> None:
@@ -226,4 +242,5 @@ def all_of_it(bench, hands, folder: Path, native) -> None:
     takes_missing(it)
     faulty_fields(it)
     mended_or_not(it)
+    mended_together(it)
     alike(it)
