@@ -129,7 +129,10 @@ def test_a_file_that_the_inbox_keeps_is_taken_once(clinic: Clinic) -> None:
     child = clinic.receive()
     clinic.until(lambda: clinic.told().get("accepted"), "it is taken")
     time.sleep(2)
-    assert clinic.inbox() == ["a.edf"] and clinic.status()["recorders"]["r01"]["state"] == "unknown"
+    told = clinic.status()
+    assert clinic.inbox() == ["a.edf"] and told["recorders"]["r01"]["state"] == "unknown"
+    assert ["a file of the inbox: " in it["text"] for it in told["causes"]] == [True]
+    assert "a.edf" not in str(told["causes"])
     (clinic.inboxes / "r01").chmod(0o3770)
     clinic.until_taken()
     clinic.stop(child)

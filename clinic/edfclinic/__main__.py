@@ -36,7 +36,7 @@ def words() -> argparse.ArgumentParser:
     parser = argparse.ArgumentParser(prog="edfclinic", description=HELP, allow_abbrev=False,
                                      formatter_class=argparse.RawDescriptionHelpFormatter)
     parser.add_argument("--config", default=config.DEFAULT, metavar="FILE",
-                        help=f"for root alone, in place of {config.DEFAULT}")
+                        help=f"in place of {config.DEFAULT}")
     parser.add_argument("--version", action="version", version=f"edfclinic {VERSION}")
     every = parser.add_subparsers(dest="command", required=True, metavar="COMMAND")
     for name, (does, given) in COMMANDS.items():

@@ -96,9 +96,12 @@ class Inbox:
 
     def remove(self, entry: Entry) -> None:
         with self.folder() as fd, suppress(FileNotFoundError):
-            if key_of(os.stat(entry.name, dir_fd=fd, follow_symlinks=False)) == entry.key:
-                os.unlink(entry.name, dir_fd=fd)
-                os.fsync(fd)
+            try:
+                if key_of(os.stat(entry.name, dir_fd=fd, follow_symlinks=False)) == entry.key:
+                    os.unlink(entry.name, dir_fd=fd)
+                    os.fsync(fd)
+            except OSError as why:      # told to everybody, and the name may have a patient's code
+                raise OSError(why.errno, why.strerror, "a file of the inbox") from None
 
 
 @dataclass
