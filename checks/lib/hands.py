@@ -76,10 +76,12 @@ class Hands:
         return b""
 
     def saved(self, name: str, seconds: float = 20) -> bytes:
-        """The bytes of what was saved under this name, which goes."""
+        """The bytes of what was saved under this name, which goes. No such file is empty but while
+        a browser writes it."""
         path, until = self.downloads / name, time.monotonic() + seconds
         parts = ("*.crdownload", "*.part", "*.wkdownload")
-        while not path.is_file() or any(list(self.downloads.glob(it)) for it in parts):
+        while (not path.is_file() or path.stat().st_size == 0
+               or any(list(self.downloads.glob(it)) for it in parts)):
             if time.monotonic() > until:
                 there = sorted(it.name for it in self.downloads.iterdir())
                 raise Lost(f"{name} was not saved; there are {there}")
