@@ -3,10 +3,11 @@ plain model (`lib.glance`): what is recorded, the stages of sleep, the lane of e
 count, and the least and the greatest value of each signal; and whose night it is and when, how many
 gaps it has and which are listed. Each picture is well-formed, whatever bytes the file's texts have.
 
-    python3 -m checks.picture [--edfruns PATH] [--seed SEED] [COUNT]      1,000 nights if left out
+    python3 -m checks.picture [--edfruns PATH] [--seed SEED] [--seconds N] [COUNT]
 
-Then it draws what is large: 200,000 distinct texts, a million annotations, 639 signals, 30,000 gaps,
-400 days; each within SECONDS and MEMORY, in a picture of at most LARGEST bytes. 0 draws these alone.
+1,000 nights if left out. Then it draws what is large: 200,000 distinct texts, a million
+annotations, 639 signals, 30,000 gaps, 400 days; each within SECONDS of processor, or those of
+--seconds, and within MEMORY, in a picture of at most LARGEST bytes. 0 draws these alone.
 """
 import random
 import shutil
@@ -140,11 +141,11 @@ LARGE: dict[str, tuple[list[int], int, int, list[str]]] = {
     "400 days": (list(range(0, 400 * 86_400, 30)), 30, 1, [])}
 
 
-def is_within(edfruns: Path, path: Path, name: str) -> bool:
+def is_within(edfruns: Path, path: Path, name: str, seconds: float) -> bool:
     """Draws what is large, and prints how long that took, how much memory and how many bytes."""
     large_file(path, *LARGE[name])
     ran = measure.ran(edfruns, "picture", path, is_measured=True)
-    is_well = bool(ran.status == 0 and ran.processor <= SECONDS and ran.peak <= MEMORY
+    is_well = bool(ran.status == 0 and ran.processor <= seconds and ran.peak <= MEMORY
                    and len(ran.out) <= LARGEST and drawn.read(ran.out.decode()).title)
     print(f"{name}: {ran.processor:.2f} s, {ran.peak >> 20} MB, {len(ran.out):,} bytes"
           + ("" if is_well else f", and that is too much: {ran.err.decode()}"))
@@ -154,6 +155,8 @@ def is_within(edfruns: Path, path: Path, name: str) -> bool:
 def main() -> None:
     parser = arguments.Parser(__doc__, ("edfruns",), count=1_000)
     parser.add_argument("--seed", type=int, default=1, help="of the nights, 1 if left out")
+    parser.add_argument("--seconds", type=float, default=SECONDS, metavar="N",
+                        help=f"that a large one may take, {SECONDS} if left out")
     given = parser.read()
     folder = Path(tempfile.mkdtemp(prefix="picture-"))
     path = folder / "night.edf"
@@ -162,7 +165,7 @@ def main() -> None:
         if wrong:
             print(f"{path}: night {nth} of seed {given.seed}", *wrong, sep="\n  ")
             checks.end(nth + 1, 1)
-    failed = sum(not is_within(given.edfruns, path, name) for name in LARGE)
+    failed = sum(not is_within(given.edfruns, path, name, given.seconds) for name in LARGE)
     shutil.rmtree(folder)
     checks.end(given.count + len(LARGE), failed)
 

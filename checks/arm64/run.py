@@ -51,7 +51,7 @@ CHECKS = (
     ("powercut.run", ("edfstore", "edfserve"), (6,)),
     ("kill.run", ("edfstore",), (5,)),
     ("rot", ("edfstore",), (5,)),
-    ("picture", ("edfruns",), (5,)),
+    ("picture", ("edfruns",), (5, "--seconds=30")),    # qemu takes ten times as long
     ("serve", ("edfstore", "edfserve"), (3,)),
     ("mend.run", ("edfstore", "edfmend"), ()),
     ("mend.fuzz", ("edfmend",), (100,)),
