@@ -111,7 +111,7 @@ def look(page: str, tracked: list) -> list:
 # The control: what stands in the page, and what in its place
 WRONG = (("| `edf_tal` |", "| `edf_tall` |"), ("| `edf_serve` |", "| `edf_serve` \\* |"),
          ("| `edf_time` |", "| `edf_mend` |"), ("`edf_sample` \\*", "`edf_sample`"),
-         ("Walk;", ";"), ("Twice Cut ", "Cut Twice Twice "),
+         ("Walk;", ";"), ("Cut CutFiles ", "CutFiles Cut Cut "),
          ("Exchange Session ", "Session Exchange "), ("Decimal Civil", "Decimal Civic"),
          ("`edf_tal/src/check.rt`", "`edf_tal/src/checks.rt`"), ("`checks/told.py`", "`checks/tolled.py`"),
          ("`Summaries.antt`", "`Summary.antt`"), ("meaning::intake`", "meaning::take`"))
