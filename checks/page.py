@@ -510,7 +510,7 @@ def control(bench: Bench, folder: Path, page: str, expected: dict[str, Any]) -> 
     bench.same("it is found", is_found(bench, expected), True)
     bench.browser.open(bench.page)
     bench.same("the page itself", is_found(bench, expected), False)
-    module = module_of(page)
+    module = module_of(page, bench.form)
     bodies = [it for it in modules.bodies(module) if it[1] - it[0] > LONG_BODY]
     step = max(1, len(bodies) // TRIED_BODIES)
     running, tried, until = list[Any](), 0, time.monotonic() + LONGEST
@@ -583,11 +583,11 @@ def in_browser(bench: Bench, given: Any, folder: Path, native: Native, expected:
     bench.browser.open(bench.page)
     bench.same("the module", bench.browser.value("MODULE"), f"module{bench.form}")
     bench.same("bytes of the page", len(page) <= MOST_BYTES, True)
+    if isinstance(bench.browser, WebKit):
+        expected = sendable(native, expected)
     if given.control:
         return control(bench, folder, page, expected)
     hands = HANDS[type(bench.browser)](bench.browser, folder / f"profile-{bench.name}/downloads")
-    if isinstance(bench.browser, WebKit):
-        expected = sendable(native, expected)
     big = None if given.without_night else folder / "night/card.edf"
     technician.all_of_it(bench, hands, folder, native, big)
     second_thoughts.all_of_it(bench, hands, folder, native)

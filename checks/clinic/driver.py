@@ -39,16 +39,18 @@ class Counter:
 
     def around(self, what: str, call: Callable[[], Any]) -> Any:
         self.count += 1
+        nth = self.count
         if self.lines is not None:
-            self.own["write"](self.lines, f"{self.count} {what}\n".encode())
-        if (self.count, "before") == tuple(self.kill_at):
+            self.own["write"](self.lines, f"{nth} {what}\n".encode())
+        if (nth, "before") == tuple(self.kill_at):
             self.kill()
-        if self.count == self.fail_at[0]:
+        if nth == self.fail_at[0]:
             raise OSError(self.fail_at[1], os.strerror(self.fail_at[1]))
-        result = call()
-        if (self.count, "behind") == tuple(self.kill_at):
-            self.kill()
-        return result
+        try:
+            return call()
+        finally:
+            if (nth, "behind") == tuple(self.kill_at):
+                self.kill()
 
     def watch(self) -> None:
         for name in CHANGING:

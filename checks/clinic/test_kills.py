@@ -79,7 +79,7 @@ def test_killed_at_any_call_it_makes_the_same(clinic: Clinic, is_long: bool) -> 
             again(other, words)
             assert outcome(other) == expected, f"killed {side} {lines[nth - 1]}"
             shutil.rmtree(other.folder)
-    assert killed >= max(40, 2 * len(chosen) - 8)
+    assert killed == 2 * len(chosen)
 
 
 def test_killed_where_the_morning_ends(clinic: Clinic) -> None:
