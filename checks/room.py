@@ -4,7 +4,7 @@ memory: then its file is read twice, and not seven times.
     python3 -m checks.room [--program PATH] [--edfserve PATH]
 
 A night of 19 MB is listed where files of this check stand in place of /proc/meminfo,
-/proc/self/cgroup and what is below /sys/fs/cgroup. All pages are kept, with room for 8,000 at
+/proc/self/cgroup and what is below /sys/fs/cgroup. All pages are kept, with room for 500 at
 least, where that takes up a quarter at most of what is free there, and of what each limit leaves,
 of version 1 or 2 of the groups: a kilobyte less, and they are not; nor where a number is missing or
 none. The list is the same. Then the night is listed with less and less room for addresses: where
@@ -26,7 +26,7 @@ from checks.lib.serving import Client
 
 # More than twice as many pages as are kept of any store: of fewer, some reading is spared anyway.
 NIGHT = replace(night.SHORT, records=9_000)
-PAGE, SHARE, FEWEST = 4_096, 4, 8_000
+PAGE, SHARE, FEWEST = 4_096, 4, 500
 # What a session over a night may have more than one over a new store, which has its pages too
 SPARE, SETTLED = 4_000_000, 0.2
 # Nights of 20 MB, whose rows have 1.7 kB, 6.7 kB, and 200 kB

@@ -13,7 +13,7 @@
 //! - [`send`] writes a file by its [`FilePlan`]: the data records that a [`Source`] returns, which
 //!   must be those of a [`Measure`]. A [`SendFault`] says why they were not written.
 //! - [`samples_of`] returns how many samples the block of a data record takes there.
-//! - [`Buffer`] holds up to 64 KiB beside a writer; [`put`] and [`flush`] write through it, and an
+//! - [`Buffer`] holds up to 256 KiB beside a writer; [`put`] and [`flush`] write through it, and an
 //!   [`OutputFault`] says why they could not.
 //! - [`laws`] says that sound data records have one canonical file, which parses to them.
 #![tactic(auto)]

@@ -1,4 +1,4 @@
-//! Writing through a buffer of 64 KiB, which the caller holds beside its writer.
+//! Writing through a buffer of 256 KiB, which the caller holds beside its writer.
 
 ghost use Rattle.std.specs.Prelude.{◌≡◌, ◌+◌, ◌-◌, ◌≤◌, [], length, vec_len, replicate};
 ghost use Rattle.edf_canonical.specs.Output.{buffered, IsWrittenOrBuffered, IsFlushed};
@@ -8,8 +8,8 @@ use crate::fault::OutputFault;
 use edf_fragment::{Output, send};
 use std::alloc::Global;
 
-/// The most bytes that are held back: 64 KiB.
-const MOST_HELD: usize = 65_536;
+/// The most bytes that are held back: 256 KiB.
+const MOST_HELD: usize = 262_144;
 
 /// Bytes that are held back before they are written.
 #[derive(Drop)]

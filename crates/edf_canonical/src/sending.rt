@@ -84,7 +84,7 @@ fn put_all<F, R, S: Source<F, R>, W: Output>(
     }
 }
 
-/// Writes a header, and then all data records of a source, through a buffer of 64 KiB. The writer
+/// Writes a header, and then all data records of a source, through a buffer of 256 KiB. The writer
 /// is not flushed. One data record is in memory at a time. The data records must be those that were
 /// measured.
 ///

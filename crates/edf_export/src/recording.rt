@@ -19,7 +19,7 @@ use std::alloc::Global;
 /// Writes the canonical EDF+D file of what is held under an identity, and returns its length.
 ///
 /// Its data records rise by start, and onsets count from the second in which the first begins. One
-/// is in memory at a time, beside a buffer of 64 KiB. The store is only read. The writer is not
+/// is in memory at a time, beside a buffer of 256 KiB. The store is only read. The writer is not
 /// flushed.
 ///
 /// # Errors

@@ -31,7 +31,8 @@ use Rattle.edf_runs.specs.Read.{ReadsOn}
 use Rattle.edf_runs.specs.Runs.{StartFrom}
 use Rattle.edf_runs.specs.Twice.{IsFilledOut}
 use Rattle.edf_runs.specs.Inside.Continuous.{IsContinuousHeader}
-use Rattle.edf_runs.specs.Inside.Filling.{IsFilling}
+use Rattle.edf_runs.specs.Inside.Filling.{IsFilling, KeepsLimits}
+use Rattle.edf_runs.specs.declared.filled.FillLimits.{FillLimits}
 use Rattle.edf_runs.specs.Inside.Placing.{bare}
 use Rattle.edf_runs.specs.Inside.Refilling.{FillsNext}
 use Rattle.edf_runs.specs.Inside.Spaced.{Spaced}
@@ -185,7 +186,7 @@ module _ {R : Type 0} (g : Ghosts R) (source : FilledSource) (file : OpenFragmen
 -- ---- the filled file of an outline
 
 module _ (outline : Outline) (filled : Filled) (is : IsFilling outline filled)
-    (once rest : Option (List ℕ)) (one : ReadsOutline once rest outline) where
+    (limits : FillLimits) (keeps : KeepsLimits limits outline filled) (once rest : Option (List ℕ)) (one : ReadsOutline once rest outline) where
   lasts-of : 0 < duration_of outline.identity.duration
   lasts-of = subst (λ (k : Key). 0 < duration_of k.duration) (sym one.is_outline.identity)
       (spelled-lasts one.read.bytes one.layout.key one.records one.read.is_file)
@@ -239,7 +240,7 @@ module _ (outline : Outline) (filled : Filled) (is : IsFilling outline filled)
         file.header.key ≡ outline.identity →
         SendsAll {E = WriteFault} (FillsNext g) (at source file input) to whole
         (λ rs. Appends before after (planned_text header whole rs)) →
-        IsFilledOut once again before after
+        IsFilledOut limits once again before after
     filled-sent to whole header again before after key begins is-header opened first same s =
         let u = filled.parts.division.unit in
         let sent = sent-records g source file input to whole
@@ -265,7 +266,7 @@ module _ (outline : Outline) (filled : Filled) (is : IsFilling outline filled)
         let sound = sound-all filled.identity source.bytes s.records bytes all.valid all.sizes in
         let file-is = continuous-file filled.identity s.records whole header key begins is-header
         instant sound starts s.measured in
-        filled-out outline filled is once rest again (g.remaining to.input) before after file.header
+        filled-out outline filled is limits keeps once rest again (g.remaining to.input) before after file.header
         others (planned_text header whole s.records) one read same (sym sent.3 ∙ later)
         (subst (λ (l : List DataRecord). IsRunFile (planned_text header whole s.records)
         filled.identity l) records-are file-is) s.wrote

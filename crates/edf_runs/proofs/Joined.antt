@@ -17,13 +17,15 @@ use Rattle.edf_fragment.specs.Whole.{ReadsFragment}
 use Rattle.edf_fragment.proofs.Sound.{spelled-sound, spelled-lasts}
 use Rattle.edf_runs.specs.ByOnset.{annotations_of}
 use Rattle.edf_runs.specs.File.{IsRunFile}
-use Rattle.edf_runs.specs.Filled.{place_of, part_samples, Moves, IsFilled, IsFilledFile}
+use Rattle.edf_runs.specs.Filled.{place_of, part_samples, Moves, IsFilled}
+use Rattle.edf_runs.specs.FillAnswers.{IsFilledWithin, IsAllowed}
+use Rattle.edf_runs.specs.declared.filled.FillLimits.{FillLimits}
 use Rattle.edf_runs.specs.Order.{in_order}
-use Rattle.edf_runs.specs.Outline.{ReadsOutline}
+use Rattle.edf_runs.specs.Outline.{ReadsOutline, IsOutline}
 use Rattle.edf_runs.specs.Runs.{IsTouching}
 use Rattle.edf_runs.specs.Twice.{IsFilledOut}
 use Rattle.edf_runs.specs.Inside.Dividing.{part_of}
-use Rattle.edf_runs.specs.Inside.Filling.{IsFilling, gaps_from, IsDivided}
+use Rattle.edf_runs.specs.Inside.Filling.{IsFilling, KeepsLimits, gaps_from, IsDivided}
 use Rattle.edf_runs.specs.Inside.Moving.{MovesNote, notes_of, stretch_notes}
 use Rattle.edf_runs.specs.Inside.Placing.{placed, bare, at_places, filled_records}
 use Rattle.edf_runs.specs.Inside.Spaced.{Spaced}
@@ -164,14 +166,28 @@ whole-is k gaps g u zero lasts is none =
 whole-is k gaps g u (suc n) lasts is more =
     (divided k g u lasts (is.best (λ none. omega (arith, none, more)))).divides.whole
 
-module _ (outline : Outline) (filled : Filled) (is : IsFilling outline filled) where
+pub whole-parts : (outline : Outline) (filled : Filled) → IsFilling outline filled →
+    0 < duration_of outline.identity.duration → filled.parts.division.parts
+    * filled.parts.division.unit ≡ duration_of outline.identity.duration
+whole-parts outline filled is lasts = whole-is outline.identity is.gaps
+    filled.parts.division.parts filled.parts.division.unit is.gaps lasts is.divided refl
+
+-- starts that are allowed, of which there are some
+abbrev AllowsStarts : FillLimits → ℕ → ℕ → List ℕ → Type 0
+AllowsStarts limits d u [] = ⊥
+AllowsStarts limits d u (s ∷ ss) = IsAllowed limits d u s (s ∷ ss)
+
+allows-starts : (limits : FillLimits) (outline : Outline) (filled : Filled) (k : Key)
+    (records : List DataRecord) → KeepsLimits limits outline filled →
+    IsOutline k records outline → AllowsStarts limits (duration_of k.duration)
+    filled.parts.division.unit (starts_of records)
+allows-starts limits outline filled k [] keeps o = absurd (omega (arith, o.some))
+allows-starts limits outline filled k (r ∷ rs) keeps o = keeps k r rs o
+
+module _ (outline : Outline) (filled : Filled) (is : IsFilling outline filled)
+    (limits : FillLimits) (keeps : KeepsLimits limits outline filled) where
   abbrev k : Key
   k = outline.identity
-
-  pub whole-parts : 0 < duration_of k.duration →
-      filled.parts.division.parts * filled.parts.division.unit ≡ duration_of k.duration
-  whole-parts lasts = whole-is k is.gaps filled.parts.division.parts filled.parts.division.unit
-      is.gaps lasts is.divided refl
 
   -- the data records of both readings are those of a filled file
   of-joined : (r : DataRecord) (rs others : List DataRecord) (notes : List Annotation)
@@ -181,8 +197,9 @@ module _ (outline : Outline) (filled : Filled) (is : IsFilling outline filled) w
       outline.spans.notes.items ≡ annotations_of (r ∷ rs) →
       ((u first : ℕ) → at_places u first (r ∷ rs) ≡ at_places u first others) →
       IsRunFile file filled.identity (records_from filled.parts 0 0 [] filled.notes.items others) →
-      IsFilledFile file k (r ∷ rs)
-  of-joined r rs others notes file lasts sound starts annotated-so places is-file =
+      AllowsStarts limits (duration_of k.duration) filled.parts.division.unit
+      (starts_of (r ∷ rs)) → IsFilledWithin limits file k (r ∷ rs)
+  of-joined r rs others notes file lasts sound starts annotated-so places is-file within =
       let d = duration_of k.duration in
       let p = is.parted in
       let g = filled.parts.division.parts in
@@ -223,7 +240,7 @@ module _ (outline : Outline) (filled : Filled) (is : IsFilling outline filled) w
       let some-gaps : (¬ IsTouching d (r ∷ rs)) → ¬ (is.gaps ≡ 0) =
       λ gap none. gap (no-gap-touches d r rs spaced (sym counted ∙ none)) in
       let whole = is-filled k g u filled.identity r rs filled.parts.flat.items moved some unit
-      (whole-parts lasts) filled.lasts
+      (whole-parts outline filled is lasts) filled.lasts
       (λ touching. (
         (is.divided.whole (no-gaps touching)).0,
         is.named.same (no-gaps touching),
@@ -245,6 +262,7 @@ module _ (outline : Outline) (filled : Filled) (is : IsFilling outline filled) w
         records_from filled.parts 0 0 [] filled.notes.items others,
         subst (λ (l : List DataRecord). IsFilled k r rs g u filled.identity l) records-are whole,
         is-file,
+        within,
       )
 
   of-both : (ones others : List DataRecord) (file : List ℕ) → 1 ≤ length ones →
@@ -252,24 +270,27 @@ module _ (outline : Outline) (filled : Filled) (is : IsFilling outline filled) w
       starts_of ones ≡ starts_of others → starts_of ones ≡ outline.spans.starts.items →
       outline.spans.notes.items ≡ annotations_of ones →
       IsRunFile file filled.identity (records_from filled.parts 0 0 [] filled.notes.items others) →
-      IsFilledFile file k (joined ones others)
-  of-both [] others file some lasts sound same starts annotated-so is-file =
+      AllowsStarts limits (duration_of k.duration) filled.parts.division.unit (starts_of ones) →
+      IsFilledWithin limits file k (joined ones others)
+  of-both [] others file some lasts sound same starts annotated-so is-file within =
       absurd (omega (arith, some))
-  of-both (o ∷ ones) [] file some lasts sound same starts annotated-so is-file =
+  of-both (o ∷ ones) [] file some lasts sound same starts annotated-so is-file within =
       absurd (let f = same in cc)
-  of-both (o ∷ ones) (r ∷ others) file some lasts sound same starts annotated-so is-file =
+  of-both (o ∷ ones) (r ∷ others) file some lasts sound same starts annotated-so is-file within =
       of-joined (record { start = o.start; samples = r.samples; annotations = o.annotations })
       (joined ones others) (r ∷ others) [] file lasts sound
       (starts-joined (o ∷ ones) (r ∷ others) same ∙ starts)
       (annotated-so ∙ sym (notes-joined (o ∷ ones) (r ∷ others) same))
       (λ u first. places-joined u first (o ∷ ones) (r ∷ others) same) is-file
+      (subst (AllowsStarts limits (duration_of k.duration) filled.parts.division.unit)
+      (sym (starts-joined (o ∷ ones) (r ∷ others) same)) within)
 
   pub filled-out : (once rest again rest' before after : Option (List ℕ)) (l : Layout)
       (others : List DataRecord) (file : List ℕ) → ReadsOutline once rest outline →
       ReadsFragment again rest' l others → l.key ≡ k →
       starts_of others ≡ outline.spans.starts.items →
       IsRunFile file filled.identity (records_from filled.parts 0 0 [] filled.notes.items others) →
-      Appends before after file → IsFilledOut once again before after
+      Appends before after file → IsFilledOut limits once again before after
   filled-out once rest again rest' before after l others file one two key starts is-file wrote =
       let o = one.is_outline in
       let ones = one.records in
@@ -301,6 +322,9 @@ module _ (outline : Outline) (filled : Filled) (is : IsFilling outline filled) w
         file = file;
         is_file = of-both ones others file o.some lasts
             (sound-joined k 0 ones others same sound 0 sound') same (sym o.spans.starts)
-            o.spans.notes is-file;
+            o.spans.notes is-file
+            (subst (λ (x : Key). AllowsStarts limits (duration_of x.duration)
+            filled.parts.division.unit (starts_of ones)) (sym o.identity)
+            (allows-starts limits outline filled one.layout.key ones keeps o));
         wrote = wrote;
       }

@@ -1,8 +1,12 @@
--- What `fill` answers beside the file: it kept the limits, and what it counted.
+-- What `fill` answers beside the file: it kept the limits, and what it counted. A filled file within
+-- limits.
 use Rattle.std.specs.Prelude.{◌≡◌, ℕ, ◌+◌, ◌-◌, ◌*◌, ◌≤◌, ◌&&◌, List, [], ◌∷◌, ◌++◌, length, map}
 use Rattle.std.specs.Prelude.{Bool, nat_lt, nat_eq, All, Contains, drop, zip, count_by}
+use Rattle.edf_field.specs.Number.{duration_of}
+use Rattle.edf_header.specs.Key.{Key}
 use Rattle.edf_fragment.specs.Fragment.{DataRecord}
-use Rattle.edf_runs.specs.Filled.{place_of}
+use Rattle.edf_runs.specs.File.{IsRunFile}
+use Rattle.edf_runs.specs.Filled.{place_of, IsFilled}
 use Rattle.edf_runs.specs.declared.filled.FillCounts.{FillCounts}
 use Rattle.edf_runs.specs.declared.filled.FillLimits.{FillLimits}
 
@@ -39,3 +43,11 @@ pub record AreFillCounts (d g u first : ℕ) (starts : List ℕ) (counts : FillC
   pub closed : counts.closed ≡ count_by (is_closed d g u first) (neighbours starts)
   pub reached : Contains (map (move_of u first) starts) counts.moved
   pub furthest : All (λ s. move_of u first s ≤ counts.moved) starts
+
+-- The bytes are the filled file of a recording, whose gaps are no longer than allowed and whose data
+-- records move no further.
+abbrev pub IsFilledWithin : FillLimits → List ℕ → Key → List DataRecord → Type 0
+IsFilledWithin limits bytes k [] = ⊥
+IsFilledWithin limits bytes k (r ∷ rs) = (g : ℕ) × (u : ℕ) × (key : Key)
+    × (others : List DataRecord) × IsFilled k r rs g u key others × IsRunFile bytes key others
+    × IsAllowed limits (duration_of k.duration) u r.start (starts_of (r ∷ rs))

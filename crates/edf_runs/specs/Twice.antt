@@ -6,7 +6,8 @@ use Rattle.edf_header.specs.Header.{Layout}
 use Rattle.edf_header.specs.Key.{Key}
 use Rattle.edf_fragment.specs.Fragment.{DataRecord, IsFragmentFile}
 use Rattle.edf_fragment.specs.Whole.{ReadsFragment}
-use Rattle.edf_runs.specs.Filled.{IsFilledFile}
+use Rattle.edf_runs.specs.FillAnswers.{IsFilledWithin}
+use Rattle.edf_runs.specs.declared.filled.FillLimits.{FillLimits}
 
 -- These data records have the starts and the annotations of some, and the starts and the samples of
 -- others.
@@ -36,11 +37,12 @@ abbrev pub SameIsRead : Type 0
 SameIsRead = (bytes : List ℕ) (k : Key) (records : List DataRecord) →
     IsReadTwice (Some bytes) (Some bytes) k records → IsFragmentFile bytes k records
 
--- The filled file of what was read went out.
-pub record IsFilledOut (once again before after : Option (List ℕ)) : Type 0 where
-  pub key : Key
-  pub records : List DataRecord
-  pub read : IsReadTwice once again key records
-  pub file : List ℕ
-  pub is_file : IsFilledFile file key records
-  pub wrote : Appends before after file
+-- The filled file of what was read went out, within these limits.
+pub record IsFilledOut (limits : FillLimits) (once again before after : Option (List ℕ)) : Type 0
+  where
+    pub key : Key
+    pub records : List DataRecord
+    pub read : IsReadTwice once again key records
+    pub file : List ℕ
+    pub is_file : IsFilledWithin limits file key records
+    pub wrote : Appends before after file

@@ -91,7 +91,7 @@ pub fn plan_cut<'o>(
 /// its length in bytes.
 ///
 /// Starts and annotations are those of the outline, and the samples those of this reading. One data
-/// record is in memory at a time beside a buffer of 64 KiB. The writer is not flushed.
+/// record is in memory at a time beside a buffer of 256 KiB. The writer is not flushed.
 ///
 /// # Errors
 /// `Undated` where no header can name when the file starts; then nothing was read or written.
@@ -146,7 +146,7 @@ pub fn write_cut<R: Input, W: Output>(
 /// which is the cut file of all time. Returns its length in bytes.
 ///
 /// Starts and annotations are those of the outline, and the samples those of this reading. One data
-/// record is in memory at a time beside a buffer of 64 KiB. The writer is not flushed.
+/// record is in memory at a time beside a buffer of 256 KiB. The writer is not flushed.
 ///
 /// # Errors
 /// Those of [`write_cut`], but `Undated` never comes.

@@ -10,12 +10,13 @@ ghost use Rattle.edf_header.specs.Signal.{samples};
 ghost use Rattle.edf_tal.specs.Tal.{Annotation};
 ghost use Rattle.edf_header.specs.Key.{Key};
 ghost use Rattle.edf_fragment.specs.Fragment.{DataRecord};
-ghost use Rattle.edf_runs.specs.FillAnswers.{IsAllowed, AreFillCounts, starts_of, neighbours};
+ghost use Rattle.edf_runs.specs.FillAnswers.{AreFillCounts, starts_of, neighbours};
 ghost use Rattle.edf_runs.specs.FillAnswers.{is_closed};
 ghost use Rattle.edf_runs.specs.Filled.{place_of};
 ghost use Rattle.edf_runs.specs.Outline.{IsOutline};
 ghost use Rattle.edf_runs.specs.Inside.Filling.{gap_before, gaps_from, GapsWithin, furthest_from};
 ghost use Rattle.edf_runs.specs.Inside.Filling.{IsDivided, IsNamed, IsFilling, MeasuresPlaces};
+ghost use Rattle.edf_runs.specs.Inside.Filling.{KeepsLimits};
 ghost use Rattle.edf_runs.specs.Inside.Moving.{MovesNote, stretch_notes};
 ghost use Rattle.edf_runs.specs.Inside.Stretching.{Rise};
 ghost use Rattle.edf_runs.specs.Order.{in_order};
@@ -262,9 +263,7 @@ fn measure_of(alloc: Global, mut places: Places<'_>, count: u32) -> Result<Measu
 /// before `TooLong` before the others.
 pub fn fill(alloc: Global, outline: &Outline, limits: FillLimits) -> Result<Filled, FillFault>
     ensures filled { IfOk result (IsFilling outline.now) }
-    ensures allowed { IfOk result (λ filled. (k : Key) (r : DataRecord) (rs : List DataRecord) →
-        IsOutline k (r ∷ rs) outline.now → IsAllowed limits (duration_of k.duration)
-        filled.parts.division.unit r.start (starts_of (r ∷ rs))) }
+    ensures allowed { IfOk result (KeepsLimits limits outline.now) }
     ensures counted { IfOk result (λ filled. (k : Key) (r : DataRecord) (rs : List DataRecord) →
         IsOutline k (r ∷ rs) outline.now → AreFillCounts (duration_of k.duration)
         filled.parts.division.parts filled.parts.division.unit r.start (starts_of (r ∷ rs))

@@ -52,7 +52,7 @@ fn run_header(alloc: Global, identity: &Identity, run: &Run) -> Result<Vec<u8>, 
 /// their canonical file, but EDF+C in place of EDF+D. It tells the length in bytes, how many
 /// annotations the file has, and how many of these have an onset outside of the run.
 ///
-/// One data record is in memory at a time beside a buffer of 64 KiB. The writer is not flushed.
+/// One data record is in memory at a time beside a buffer of 256 KiB. The writer is not flushed.
 ///
 /// # Errors
 /// `Undated` where no header can name the run's start; then nothing was read or written. `Changed`

@@ -4,7 +4,8 @@ ghost use Rattle.std.specs.Prelude.{ℕ, List, Option, IfOk, IfErr};
 ghost use Rattle.std.specs.Io.KnownBytes.{Appends};
 ghost use Rattle.edf_header.specs.Key.{MayStart};
 ghost use Rattle.edf_runs.specs.Inside.Continuous.{IsContinuousHeader};
-ghost use Rattle.edf_runs.specs.Inside.Filling.{IsFilling};
+ghost use Rattle.edf_runs.specs.Inside.Filling.{IsFilling, KeepsLimits};
+ghost use Rattle.edf_runs.specs.declared.filled.FillLimits.{FillLimits};
 ghost use Rattle.edf_runs.specs.Outline.{ReadsOutline};
 ghost use Rattle.edf_runs.specs.Twice.{IsFilledOut};
 
@@ -64,7 +65,7 @@ fn header_of(alloc: Global, filled: &Filled) -> Result<Vec<u8>, WriteFault>
 /// Reads a file again, from its first byte, and writes the filled file that was made of its
 /// outline.
 ///
-/// One data record is in memory at a time beside a buffer of 64 KiB. The writer is not flushed.
+/// One data record is in memory at a time beside a buffer of 256 KiB. The writer is not flushed.
 ///
 /// # Errors
 /// `Undated` where no header can name when the file starts; then nothing was read. `Changed` where
@@ -78,9 +79,10 @@ pub fn write_filled<'o, R: Input, W: Output>(
     filled: &'o Filled,
     out: &mut W,
 ) -> Result<(), WriteFault>
-    ensures written { IfOk result (λ none. (once rest : Option (List ℕ)) →
+    ensures written { IfOk result (λ none. (limits : FillLimits) (once rest : Option (List ℕ)) →
         ReadsOutline once rest outline.now → IsFilling outline.now filled.now →
-        IsFilledOut once (R.remaining input.old) (W.contents out.old) (W.contents out.new)) }
+        KeepsLimits limits outline.now filled.now →
+        IsFilledOut limits once (R.remaining input.old) (W.contents out.old) (W.contents out.new)) }
     ensures stopped { IfErr result (λ fault. (text : List ℕ)
         × Appends (W.contents out.old) (W.contents out.new) text) }
 {

@@ -14,16 +14,17 @@ use Rattle.edf_cli.specs.declared.status.Status.{Status}
 use Rattle.edf_cli.specs.declared.status.Status.TheVariants.{Done, Refused, Trouble}
 use Rattle.edf_runs.specs.Cut.{between, IsCutFile}
 use Rattle.edf_runs.specs.Twice.{IsReadTwice, IsFilledOut}
+use Rattle.edf_runs.specs.declared.filled.FillLimits.{FillLimits}
 use Rattle.edfruns_command.specs.Lines.{file_refused_status}
 use Rattle.edfruns_command.specs.Listing.{HasFault}
 
--- `fill` writes the filled file of a recording; nothing, where it has none; and where it stops,
--- some bytes behind what was there.
-abbrev pub IsFillOut : OutputChange → Option (List ℕ) → Status → Type 0
-IsFillOut out bytes Done = IsFilledOut bytes bytes out.before out.after
-IsFillOut out bytes Refused = Keeps out.before out.after
-IsFillOut out bytes Trouble = (text : List ℕ) × Appends out.before out.after text
-IsFillOut out bytes other = ⊥
+-- `fill` writes the filled file of a recording, within the limits that were asked for; nothing,
+-- where it has none; and where it stops, some bytes behind what was there.
+abbrev pub IsFillOut : OutputChange → Option (List ℕ) → FillLimits → Status → Type 0
+IsFillOut out bytes limits Done = IsFilledOut limits bytes bytes out.before out.after
+IsFillOut out bytes limits Refused = Keeps out.before out.after
+IsFillOut out bytes limits Trouble = (text : List ℕ) × Appends out.before out.after text
+IsFillOut out bytes limits other = ⊥
 
 -- There is none of these data records whose start a header can name.
 abbrev pub HasNoFirst : Key → List DataRecord → Type 0

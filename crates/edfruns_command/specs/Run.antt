@@ -41,7 +41,7 @@ abbrev pub IsDone : (List ℕ → Option (List ℕ)) → Making → OutputChange
 IsDone bytes made out err (list files) status = IsListOut bytes out err files status
 IsDone bytes made out err (canonical file by_onset) status =
     IsCanonicalOut out err (bytes file) file by_onset status
-IsDone bytes made out err (fill file limits) status = IsFillOut out (bytes file) status
+IsDone bytes made out err (fill file limits) status = IsFillOut out (bytes file) limits status
 IsDone bytes made out err (cut file from to) status = IsCutOut out (bytes file) from to status
 IsDone bytes made out err (compare file other) status =
     IsComparedOut out (bytes file) (bytes other) status

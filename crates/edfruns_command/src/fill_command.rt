@@ -4,7 +4,8 @@ ghost use Rattle.std.specs.Prelude.{◌≡◌, ◌++◌, ◌∷◌, [], ℕ, Lis
 ghost use Rattle.std.specs.Prelude.{MatchResult};
 ghost use Rattle.std.specs.Io.KnownBytes.{Appends};
 ghost use Rattle.edf_cli.specs.Output.{output_change};
-ghost use Rattle.edf_runs.specs.Inside.Filling.{IsFilling};
+ghost use Rattle.edf_runs.specs.Inside.Filling.{IsFilling, KeepsLimits};
+ghost use Rattle.edf_runs.specs.declared.filled.FillLimits.{FillLimits};
 ghost use Rattle.edf_runs.specs.Outline.{ReadsOutline};
 ghost use Rattle.edf_runs.specs.Twice.{IsFilledOut};
 ghost use Rattle.edfruns_command.specs.Answering.{Answers};
@@ -241,10 +242,10 @@ fn write_again<'o, I: Inputs, O: Output>(
     inputs: &mut I,
     out: &mut O,
 ) -> Result<(), WriteFault>
-    ensures written { IfOk result (λ none. (rest : Option (List ℕ)) →
+    ensures written { IfOk result (λ none. (limits : FillLimits) (rest : Option (List ℕ)) →
         ReadsOutline (I.bytes inputs.old file.now) rest outline.now →
-        IsFilling outline.now filled.now →
-        IsFilledOut (I.bytes inputs.old file.now) (I.bytes inputs.old file.now)
+        IsFilling outline.now filled.now → KeepsLimits limits outline.now filled.now →
+        IsFilledOut limits (I.bytes inputs.old file.now) (I.bytes inputs.old file.now)
         (O.contents out.old) (O.contents out.new)) }
     ensures stopped { IfErr result (λ fault. (text : List ℕ)
         × Appends (O.contents out.old) (O.contents out.new) text) }
@@ -269,7 +270,7 @@ pub(crate) fn fill_file<I: Inputs, O: Output, F: Output>(
     err: &mut F,
 ) -> Status
     ensures written { IsFillOut (output_change O.Output out.old out.new)
-        (I.bytes inputs.old file.now) result }
+        (I.bytes inputs.old file.now) limits result }
     ensures opened { OpensAgain (I.opened inputs.old) (I.opened inputs.new) file.now 2 result }
     ensures same { (name : List ℕ) → I.bytes inputs.new name ≡ I.bytes inputs.old name }
 {

@@ -6,8 +6,9 @@ ghost use Rattle.edfstore_open.specs.Cache.{IsCacheSize};
 /// The bytes of a page, in the stores that are made here.
 const PAGE: u64 = 4_096;
 
-/// The fewest pages of a cache: those of a log that is copied, or else each is read once more.
-const FEWEST: u64 = 8_000;
+/// The fewest pages of a cache, which takes its memory at once. Pages of a longer log are read again
+/// as it is copied, which costs less than zeroing a cache for each small file.
+const FEWEST: u64 = 500;
 
 /// The most pages of a cache: 512 MiB of them.
 const MOST: u64 = 131_072;
@@ -19,7 +20,7 @@ const SHARE: u64 = 4;
 /// there is memory for it; `None` stands for the port's own number, since a cache of a part of them
 /// spares no reading.
 pub(crate) fn cache_pages(bytes: u64, free: u64) -> Option<usize>
-    ensures { let pages = max (bytes / 4096) 8000 in
+    ensures { let pages = max (bytes / 4096) 500 in
         MatchOption result (¬ IsCacheSize pages free)
         (λ n. (n ≡ pages) × IsCacheSize pages free) }
 {

@@ -11,7 +11,7 @@ use Rattle.edf_tal.specs.Tal.{Annotation}
 use Rattle.edf_fragment.specs.Fragment.{DataRecord}
 use Rattle.edf_canonical.specs.Measure.{IsMeasured}
 use Rattle.edf_canonical.specs.declared.measure.Measure.{Measure}
-use Rattle.edf_runs.specs.FillAnswers.{move_of}
+use Rattle.edf_runs.specs.FillAnswers.{move_of, IsAllowed, starts_of}
 use Rattle.edf_runs.specs.Filled.{IsFilledKey}
 use Rattle.edf_runs.specs.Inside.Dividing.{IsBestOf}
 use Rattle.edf_runs.specs.Inside.Moving.{MovesNote, stretch_notes}
@@ -20,6 +20,7 @@ use Rattle.edf_runs.specs.Inside.Stretching.{Rise}
 use Rattle.edf_runs.specs.Inside.ToCome.{IsPlaced, StartAt, samples_to_come, to_come}
 use Rattle.edf_runs.specs.Order.{in_order}
 use Rattle.edf_runs.specs.Outline.{IsOutline}
+use Rattle.edf_runs.specs.declared.filled.FillLimits.{FillLimits}
 use Rattle.edf_runs.specs.declared.filled.Filled.{Filled}
 use Rattle.edf_runs.specs.declared.filled_places.Places.{Places}
 use Rattle.edf_runs.specs.declared.outline.Outline.{Outline}
@@ -88,3 +89,9 @@ pub record IsFilling (outline : Outline) (filled : Filled) : Type 0 where
       × AllZip (MovesNote parted) outline.spans.notes.items moved
       × (filled.notes.items
       ≡ in_order (moved ++ stretch_notes parted 0 parted.starts.now))
+
+-- It keeps these limits, whatever recording its outline is of.
+abbrev pub KeepsLimits : FillLimits → Outline → Filled → Type 0
+KeepsLimits limits outline filled = (k : Key) (r : DataRecord) (rs : List DataRecord) →
+    IsOutline k (r ∷ rs) outline → IsAllowed limits (duration_of k.duration)
+    filled.parts.division.unit r.start (starts_of (r ∷ rs))

@@ -24,14 +24,14 @@ returns-in_err-send-clause-stopped g c =
     rw p.1 (prefix.prefix, prefix.wrote)
 
 pub returns-clause-written : goal.returns-clause-written
-returns-clause-written g c once rest one is =
+returns-clause-written g c limits once rest one is keeps =
     let filled = c.args.filled.now in
     let measure = filled.measure in
     let opened = c.in_ok-fragment.ensures.answer in
     let header : IsContinuousHeader c.as_slice-3.result.now filled.identity measure =
     subst (λ (l : List ℕ). IsContinuousHeader l filled.identity measure)
     (sym c.as_slice-3.ensures.value) c.in_ok-header.ensures.header in
-    filled-sent c.args.outline.now filled is once rest one g.R.Input _ _ _ refl
+    filled-sent c.args.outline.now filled is limits keeps once rest one g.R.Input _ _ _ refl
     c.as_slice.ensures.value c.as_slice-2.ensures.value refl refl refl
     c.ordinary_bytes.ensures.value
     _ measure c.as_slice-3.result.now _ _ _ c.ordinary_bytes.ensures.key

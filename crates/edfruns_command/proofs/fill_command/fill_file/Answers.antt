@@ -16,7 +16,8 @@ pub returns-in-Err-clause-written : goal.returns-in-Err-clause-written
 returns-in-Err-clause-written g c =
     let out = g.O.Output.contents c.args.out.now in
     let bytes = g.I.Inputs.bytes c.args.inputs.now c.args.file.now in
-    by-fault (IsFillOut (output_change g.O.Output c.args.out.now c.args.out.now) bytes)
+    by-fault (λ status. IsFillOut (output_change g.O.Output c.args.out.now c.args.out.now) bytes
+    c.args.limits status)
     (output_change g.F.Output c.args.err.now c.refuse.new.err) bytes c.args.file.now
     c.in-Err.fault c.refuse.result c.in-Err.ensures.answer c.refuse.ensures
     (λ met is. Keeps-refl out) ([], Appends-nil out)
@@ -28,8 +29,8 @@ returns-in-Err-clause-opened g c = opened-refused _ _ _ _ c.in-Err.ensures.opene
 pub returns-in-Err-fill-clause-written : goal.returns-in-Err-fill-clause-written
 returns-in-Err-fill-clause-written g c =
     let out = g.O.Output.contents c.args.out.now in
-    by-status (IsFillOut (output_change g.O.Output c.args.out.now c.args.out.now)
-    (g.I.Inputs.bytes c.args.inputs.now c.args.file.now)) Refused c.refuse_fill.result
+    by-status (λ status. IsFillOut (output_change g.O.Output c.args.out.now c.args.out.now)
+    (g.I.Inputs.bytes c.args.inputs.now c.args.file.now) c.args.limits status) Refused c.refuse_fill.result
     c.refuse_fill.ensures (λ is. Keeps-refl out) ([], Appends-nil out)
 
 pub returns-in-Err-fill-clause-opened : goal.returns-in-Err-fill-clause-opened
@@ -42,12 +43,12 @@ returns-in-Ok-write_again-clause-written g c =
     let same = c.in-Ok.ensures.same c.args.file.now in
     let before = g.O.Output.contents c.args.out.now in
     let after = g.O.Output.contents c.write_again.new.out in
-    let is = subst (λ (b : Option (List ℕ)). IsFilledOut b b before after) same
-    (c.in-Ok-write_again.ensures.written answer.0
+    let is = subst (λ (b : Option (List ℕ)). IsFilledOut c.args.limits b b before after) same
+    (c.in-Ok-write_again.ensures.written c.args.limits answer.0
     (subst (λ (b : Option (List ℕ)). ReadsOutline b answer.0 c.in-Ok.outline) (sym same)
-    answer.1) c.in-Ok-fill.ensures.filled) in
-    by-status (IsFillOut (output_change g.O.Output c.args.out.now c.write_again.new.out)
-    (g.I.Inputs.bytes c.args.inputs.now c.args.file.now)) Done c.print_filled.result
+    answer.1) c.in-Ok-fill.ensures.filled c.in-Ok-fill.ensures.allowed) in
+    by-status (λ status. IsFillOut (output_change g.O.Output c.args.out.now c.write_again.new.out)
+    (g.I.Inputs.bytes c.args.inputs.now c.args.file.now) c.args.limits status) Done c.print_filled.result
     c.print_filled.ensures (λ done. is) (is.file, is.wrote)
 
 pub returns-in-Ok-write_again-clause-opened : goal.returns-in-Ok-write_again-clause-opened
@@ -61,7 +62,7 @@ returns-in-Ok-write_again-clause-same g c =
 pub returns-clause-written : goal.returns-clause-written
 returns-clause-written g c =
     subst (IsFillOut (output_change g.O.Output c.args.out.now c.write_again.new.out)
-    (g.I.Inputs.bytes c.args.inputs.now c.args.file.now))
+    (g.I.Inputs.bytes c.args.inputs.now c.args.file.now) c.args.limits)
     (sym (trouble-told _ _ _ c.refuse_canonical.ensures)) c.in-Err-write_again.ensures.stopped
 
 pub returns-clause-opened : goal.returns-clause-opened

@@ -11,9 +11,10 @@ returns-in-Ok-clause-written g c =
     let before = g.O.Output.contents c.args.out.now in
     let after = g.O.Output.contents c.write_filled.new.out in
     IfOk-weaker c.write_filled.result _ _
-    (λ none filled rest outline is. subst (λ (b : Option (List ℕ)). IsFilledOut bytes b before
+    (λ none filled limits rest outline is keeps.
+    subst (λ (b : Option (List ℕ)). IsFilledOut limits bytes b before
     after)
-    c.in-Ok.ensures.reader (filled bytes rest outline is)) c.write_filled.ensures.written
+    c.in-Ok.ensures.reader (filled limits bytes rest outline is keeps)) c.write_filled.ensures.written
 
 pub returns-in-Ok-clause-opened : goal.returns-in-Ok-clause-opened
 returns-in-Ok-clause-opened g c =
