@@ -215,7 +215,8 @@ OTHER_TABLES = ("its tables are not a store's, or have an index or a trigger; it
 OTHER_ROWS = "its rows are such as no submissions leave; put it aside, as it is"
 FULL = "the disk is full"
 TAKEN = "no file is written over another: give another name, or move that file away"
-THERE = "it is there already: a program is writing it, or was stopped then; if so, remove it"
+THERE = ("it is there already, as a stopped run leaves it: once no program writes it, remove it and "
+         "run this again")
 A_PIPE = ("a pipe can't be read a second time, unless it is written again: write it to a file "
           "first")
 CHANGED = "it changed between the two readings: run this again once no program writes it"
@@ -239,6 +240,7 @@ LEFT_OUT = ("readers may leave out annotations that lie outside of the run; spli
             "'canonical --by-onset' writes, and only those do whose onsets lie in no run")
 NOT_WHOLE = "remove the cause and run it again: what standard output got is not whole"
 NOTHING_LEFT = "remove the cause and run it again: no part of it is left, unless a line says so"
+STAY = "the files that were made stay: remove them, or give another prefix"
 
 # What is wrong with a field, and what is said behind that: by the programs that mend nothing, and
 # by edfmend of E4 and of E5

@@ -94,6 +94,24 @@ def devices(checks: Checks) -> None:
     checks.same("the files", checks.names(), ["pipe"])
 
 
+def part_there(checks: Checks, words: str, name: str) -> None:
+    """A part that a stopped run left is named, where causes are asked for."""
+    checks.begin(f"a part that is there is named: {checks.name}")
+    checks.file("a.edf", by_hand.field(by_hand.Q, by_hand.COUNT, "-1"))
+    checks.file(f"{name}.part", b"mine")
+    logged(checks, words, "", "{}" + printed.line(name, UNWRITTEN),
+           cause(f"{name}.part", printed.THERE), 3)
+    checks.same("the files", checks.names(), ["a.edf", f"{name}.part"])
+
+
+def part_of_split(checks: Checks) -> None:
+    part_there(checks, "split a.edf part", "part-1.edf")
+
+
+def part_of_mended(checks: Checks) -> None:
+    part_there(checks, "a.edf new.edf", "new.edf")
+
+
 def left(checks: Checks, words: str, name: str) -> None:
     """A file that has its name already, and can't be removed."""
     library = measure.library(Path(__file__).with_name("unremoved.c"), checks.folder)
@@ -164,9 +182,10 @@ def main() -> None:
         checks = Checks(given.program, Path(name))
         parts: tuple[tuple[str, Path, tuple[Callable[[Checks], None], ...]], ...] = (
             ("edfstore", given.program, (stores, files, no_file_for_a_terminal, waits)),
-            ("edfruns", given.edfruns, (no_canonical_for_a_terminal, names_left)),
+            ("edfruns", given.edfruns, (no_canonical_for_a_terminal, names_left,
+                                              part_of_split)),
             ("edfserve", given.edfserve, (sessions,)),
-            ("edfmend", given.edfmend, (devices,)))
+            ("edfmend", given.edfmend, (devices, part_of_mended)))
         for checks.name, path, cases in parts:
             checks.program = measure.Program(path, Path(name), most=20)
             for case in cases:

@@ -248,15 +248,22 @@ def files_of_runs(checks: Checks) -> None:
     checks.begin("a part is there")
     checks.file("a.edf", R9)
     checks.file("part-2.edf.part", b"mine")
-    unwritten = printed.line("part-2.edf", UNWRITTEN) + cause("part-2.edf", printed.NOTHING_LEFT)
+    unwritten = printed.line("part-2.edf", UNWRITTEN) + cause("part-2.edf", printed.STAY)
     told = runs.split_lines("part", made).splitlines(keepends=True)[0]
     on_terminal(checks, "split a.edf part", told, status=3, err=first + WIPED + second + WIPED
                 + cause("part-2.edf.part", printed.THERE) + unwritten)
     checks.same("the files", checks.names(), ["a.edf", "part-1.edf", "part-2.edf.part"])
     checks.same("the part", checks.content("part-2.edf.part"), b"mine")
-    on_terminal(checks, "canonical a.edf", status=3, into=Path("/dev/full"), err=first + WIPED
-                + second + WIPED + cause("/dev/full", printed.FULL) + printed.UNWRITTEN_OUTPUT
-                + cause("standard output", printed.NOT_WHOLE))
+    on_terminal(checks, "split a.edf none/part", status=3, err=first + WIPED + second + WIPED
+                + cause("none/part-1.edf.part", printed.NO_FILE)
+                + printed.line("none/part-1.edf", UNWRITTEN)
+                + cause("none/part-1.edf", printed.NOTHING_LEFT))
+    unwritten = (cause("/dev/full", printed.FULL) + printed.UNWRITTEN_OUTPUT
+                 + cause("standard output", printed.NOT_WHOLE))
+    for words, below in (("canonical a.edf", ""),
+                         ("split a.edf whole", cause("standard output", printed.STAY))):
+        on_terminal(checks, words, status=3, into=Path("/dev/full"),
+                    err=first + WIPED + second + WIPED + unwritten + below)
 
 
 # An annotation in the first data record whose onset lies in the second, which is another run.
@@ -344,11 +351,12 @@ def mended_files(checks: Checks) -> None:
     on_terminal(checks, "a.edf b.edf", status=1,
                 err=printed.is_there("b.edf") + cause("b.edf", printed.TAKEN))
     checks.file("c.edf.part", b"mine")
-    for name, part, why in (("c.edf", "c.edf.part", printed.THERE),
-                            ("none/export", "none/export.part", printed.NO_FILE)):
+    for name, why, below in (
+            ("c.edf", printed.THERE, ""),
+            ("none/export", printed.NO_FILE, cause("none/export", printed.NOTHING_LEFT))):
         on_terminal(checks, f"a.edf {name}", status=3,
-                    err=mend_steps(2) + cause(part, why)
-                    + printed.line(name, UNWRITTEN) + cause(name, printed.NOTHING_LEFT))
+                    err=mend_steps(2) + cause(f"{name}.part", why)
+                    + printed.line(name, UNWRITTEN) + below)
     checks.same("the files", checks.names(), ["a.edf", "b.edf", "c.edf.part"])
 
 

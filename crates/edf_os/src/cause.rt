@@ -15,6 +15,9 @@ pub(crate) const CHANGED: &str = "it changed between the two readings: run this 
 pub(crate) const RENAME: &str = "no file is written over another: give another name, or move that \
     file away";
 
+/// It says what to do where a split stopped after it made a file.
+pub(crate) const STAYS: &str = "the files that were made stay: remove them, or give another prefix";
+
 /// Returns what to do after a failed write to what has this name: a new file, of a program that
 /// mends or of a split, or else a stream.
 pub(crate) fn on_unwritten(terminal: &Terminal<'_>, name: &str) -> &'static str {
@@ -73,15 +76,18 @@ pub(crate) fn print_unread(terminal: &Terminal<'_>, name: &str, error: &io::Erro
     }
 }
 
-/// Prints why a file of this name, which is begun, could not be made.
+/// Prints why a file of this name, which is begun, could not be made. What is in its way explains
+/// E43 too.
 pub(crate) fn print_unmade(terminal: &Terminal<'_>, name: &str, error: &io::Error) {
-    match error.kind() {
-        ErrorKind::AlreadyExists => terminal.say(
-            name,
-            "it is there already: a program is writing it, or was stopped then; if so, remove it",
-        ),
-        _ => print_system_error(terminal, name, error),
+    if error.kind() != ErrorKind::AlreadyExists {
+        return print_system_error(terminal, name, error);
     }
+    terminal.is_first(43);
+    terminal.say(
+        name,
+        "it is there already, as a stopped run leaves it: once no program writes it, remove it and \
+        run this again",
+    );
 }
 
 /// Prints that a pipe is read a second time.

@@ -1,7 +1,7 @@
 //! Explanations below the lines, on a terminal.
 
 use crate::advice::{Row, row_of};
-use crate::cause::{CHANGED, RENAME, on_unwritten};
+use crate::cause::{CHANGED, RENAME, STAYS, on_unwritten};
 use crate::terminal::Terminal;
 use edf_fragment::{FragmentFault, Remark};
 
@@ -17,7 +17,7 @@ fn explain_form(terminal: &Terminal<'_>, name: &str, fault: &FragmentFault) {
         (Row::Never(words) | Row::Own(words), _)
         | (Row::Behind(words, _) | Row::Field(words, _) | Row::Instead(words, _), false)
         | (Row::Behind(_, words) | Row::Field(_, words), true) => {
-            terminal.advise_of(name, fault, words);
+            terminal.advise(name, format_args!("{fault}{words}"));
         }
         (Row::Instead(_, words), true) => terminal.advise(name, words),
     }
@@ -44,13 +44,21 @@ fn explain_number(terminal: &Terminal<'_>, name: &str, number: u8) {
     terminal.advise_once(number, name, words);
 }
 
+/// Explains the same of what may stop a split, whose files stay.
+fn explain_stop(terminal: &Terminal<'_>, name: &str, number: u8) {
+    explain_number(terminal, name, number);
+    if terminal.is_file_made() {
+        terminal.advise(name, STAYS);
+    }
+}
+
 /// Explains to a person a line about what has this name, below it. An explanation that is the same
 /// for each file is printed once.
 pub(crate) fn explain(terminal: &Terminal<'_>, name: &str, remark: Remark) {
     match remark {
         Remark::Fault(fault) if fault.number() < 40 => explain_form(terminal, name, &fault),
         Remark::Fault(fault) => explain_number(terminal, name, fault.number()),
-        Remark::Refused(number) => explain_number(terminal, name, number),
+        Remark::Refused(number) => explain_stop(terminal, name, number),
         Remark::Taken => terminal.advise(name, RENAME),
         Remark::Outside => terminal.advise_once(0, name, LEFT_OUT),
     }

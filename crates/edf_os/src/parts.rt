@@ -225,8 +225,9 @@ impl<'rt> Parts<'rt> {
             Ok(()) => self.put_and_settle(part.as_str(), name.as_str()),
             Err(error) => Err(never_named(error)),
         };
-        if let Err(unnamed) = &ended {
-            print_system_error(terminal, name.as_str(), &unnamed.error);
+        match &ended {
+            Ok(()) => terminal.note_file_made(),
+            Err(unnamed) => print_system_error(terminal, name.as_str(), &unnamed.error),
         }
         ended
     }

@@ -4,7 +4,6 @@
 //! Messages are lines; progress is one overwritten line, erased before other output.
 
 use crate::streams::standard_error;
-use edf_fragment::FragmentFault;
 use std::cell::Cell;
 use std::fmt::{Display, Write};
 use std::io::IsTerminal;
@@ -48,6 +47,8 @@ pub struct Terminal<'rt> {
     is_unread_printed: Cell<bool>,
     /// It is true once something was written to standard output.
     is_output_begun: Cell<bool>,
+    /// It is true once a new file got its name.
+    is_file_made: Cell<bool>,
     /// The numbers of the refusals that were explained, a bit each.
     explained: Cell<u64>,
 }
@@ -74,6 +75,7 @@ impl<'rt> Terminal<'rt> {
             is_progress_shown: Cell::new(false),
             is_unread_printed: Cell::new(false),
             is_output_begun: Cell::new(false),
+            is_file_made: Cell::new(false),
             explained: Cell::new(0),
         }
     }
@@ -124,17 +126,6 @@ impl<'rt> Terminal<'rt> {
         }
     }
 
-    /// Prints for a person the sentence of a fault of the file of this name, and these words.
-    pub(crate) fn advise_of(&self, name: &str, fault: &FragmentFault, words: &str) {
-        if self.is_there {
-            self.wipe_progress();
-            let mut err = standard_error(self.rt);
-            if err.put_name(name) {
-                let _ = writeln!(err, ": {fault}{words}");
-            }
-        }
-    }
-
     /// Prints a line for a person once, by the number of a refusal.
     pub(crate) fn advise_once(&self, number: u8, name: &str, words: &str) {
         if self.is_first(number) {
@@ -156,6 +147,16 @@ impl<'rt> Terminal<'rt> {
     /// Is true once something was written to standard output.
     pub fn is_output_begun(&self) -> bool {
         self.is_output_begun.get()
+    }
+
+    /// Notes that a new file got its name.
+    pub(crate) fn note_file_made(&self) {
+        self.is_file_made.set(true);
+    }
+
+    /// Is true once a new file got its name.
+    pub(crate) fn is_file_made(&self) -> bool {
+        self.is_file_made.get()
     }
 
     /// Notes that it was printed why a file could not be read.
