@@ -17,7 +17,7 @@ fn explain_form(terminal: &Terminal<'_>, name: &str, fault: &FragmentFault) {
         (Row::Never(words) | Row::Own(words), _)
         | (Row::Behind(words, _) | Row::Field(words, _) | Row::Instead(words, _), false)
         | (Row::Behind(_, words) | Row::Field(_, words), true) => {
-            terminal.advise(name, format_args!("{fault}{words}"));
+            terminal.advise_of(name, fault, words);
         }
         (Row::Instead(_, words), true) => terminal.advise(name, words),
     }

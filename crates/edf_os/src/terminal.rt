@@ -4,6 +4,7 @@
 //! Messages are lines; progress is one overwritten line, erased before other output.
 
 use crate::streams::standard_error;
+use edf_fragment::FragmentFault;
 use std::cell::Cell;
 use std::fmt::{Display, Write};
 use std::io::IsTerminal;
@@ -123,6 +124,17 @@ impl<'rt> Terminal<'rt> {
     pub fn advise(&self, name: &str, words: impl Display + Drop) {
         if self.is_there {
             self.print(name, words);
+        }
+    }
+
+    /// Prints for a person the sentence of a fault of the file of this name, and these words.
+    pub(crate) fn advise_of(&self, name: &str, fault: &FragmentFault, words: &str) {
+        if self.is_there {
+            self.wipe_progress();
+            let mut err = standard_error(self.rt);
+            if err.put_name(name) {
+                let _ = writeln!(err, ": {fault}{words}");
+            }
         }
     }
 
