@@ -145,6 +145,8 @@ SINGLE = (
      recording() + dimension("\\xb5V", "uV")),
     ("micro_utf_8", of(replace(EEG, dimension="µV".encode())), good(),
      recording() + dimension("\\xc2\\xb5V", "uV")),
+    ("micro_shift_jis", of(replace(EEG, dimension=b"\x83\xcaV")), good(),
+     recording() + dimension("\\x83\\xcaV", "uV")),
     ("transducer", of(replace(EEG, transducer="Müller \"37°\"".encode())),
      good(replace(EEG, transducer='Mueller "37deg"')),
      recording() + change("signal 1 transducer", 288, 'M\\xc3\\xbcller \\"37\\xc2\\xb0\\"',
@@ -180,10 +182,13 @@ def signals(script: MendScript) -> None:
     script.title("a field of a signal becomes its good form, and a line names it")
     for name, before, after, lines in SINGLE:
         script.mends(name, before, after, lines)
-    script.title("what eight bytes lack, a comma that may part thousands, a text without room")
+    script.title("what eight bytes lack, a comma that may part thousands, a text without room, a "
+                 "dimension of which a letter may be micro or milli")
     script.refuses_form("wide_power", of(physical("1e9", "51e1")), faults.physical(1))
     for nth, (least, most) in enumerate((("-1,000", "1,000"), ("012,345", "510")), 1):
         script.refuses_form(f"thousands_{nth}", of(physical(least, most)), faults.physical(1))
+    script.refuses_form("micro_or_milli", of(replace(EEG, dimension=b"\xecV")),
+                        faults.unprintable_signals(448))
     script.refuses("long_label", of(replace(EEG, label=b"EEG Fpz-Cz \xe4\xe4\xe4\xe4")), NO_TEXT)
 
 

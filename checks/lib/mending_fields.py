@@ -21,9 +21,10 @@ LETTERS = dict(zip("µμ°ºΩ\u2126²³±ÄäÖöÜüßÆæÅåØøÇçÑñÝý
 RANGES = (("\0", "\x1f", " "), ("\x7f", "\x7f", " "), ("\xa0", "\xa0", " "), ("À", "Ã", "A"),
           ("à", "ã", "a"), ("È", "Ë", "E"), ("è", "ë", "e"), ("Ì", "Ï", "I"), ("ì", "ï", "i"),
           ("Ò", "Õ", "O"), ("ò", "õ", "o"), ("Ù", "Û", "U"), ("ù", "û", "u"))
-# The same in a dimension; æ is the micro sign of DOS
+# The same in a dimension, where no other is read; æ is the micro sign of DOS
 DIMENSIONS = {"µ": "u", "μ": "u", "æ": "u", "°": "deg", "º": "deg", "Ω": "Ohm", "\u2126": "Ohm",
               "²": "2", "³": "3"}
+MICRO = b"\x83\xca"                     # of Shift-JIS
 
 
 class Refused(Exception):
@@ -86,8 +87,12 @@ def spelling(text: bytes) -> bytes:
 
 
 def dimension_spelling(text: bytes) -> bytes:
-    return "".join(one if " " <= one <= "~" else DIMENSIONS.get(one, "?")
-                   for one in characters(text)).encode()
+    if text.startswith(MICRO) and is_printable(text[2:]):
+        return b"u" + text[2:]
+    made = [one if " " <= one <= "~" else DIMENSIONS.get(one, "") for one in characters(text)]
+    if not all(made):
+        raise Refused("E15")
+    return "".join(made).encode()
 
 
 def text_of(field: bytes, spell: Callable[[bytes], bytes] = spelling) -> bytes:

@@ -164,6 +164,12 @@ def no_limits(low: str, high: str, fault: str = "refused E17 Physical signal=1")
     return refused(f"limits {low} and {high}", data, fault)
 
 
+def no_dimension(text: bytes, at: int, signal: int = 1, data: bytes = GOOD) -> Row:
+    return refused(f"dimension {text!r} of signal {signal}",
+                   at_column(by_hand.DIMENSION, signal, text)(data),
+                   f"refused E15 UnprintableSignals offset={at}")
+
+
 def lettered(which: int, text: bytes, spelled: str) -> Row:
     return Row(f"{text!r} in field {which}", at_column(which, 1, text)(GOOD),
                recording=f"{NIGHT} mended", signal=((which, spelled),))
@@ -183,9 +189,19 @@ LIMITS = [
     Row("digital limits that fall, and a comma", FALLING, recording=f"{NIGHT} mended", signal=(
         (by_hand.LOW, "-440"), (by_hand.HIGH, "510.0"), (by_hand.DIGITAL_LOW, "-2048"),
         (by_hand.DIGITAL_HIGH, "2047"), (by_hand.DIMENSION, "uV"))),
+    Row("equal limits, and a dimension that is not read", at_column(
+        by_hand.DIMENSION, 1, b"\xecV")(EQUAL), recording=f"{NIGHT} mended",
+        signal=((by_hand.DIMENSION, ""),)),
     *(lettered(by_hand.DIMENSION, text, "uV") for text in
-      (b"\xb5V", "µV".encode(), "μV".encode(), b"\xe6V")),
-    lettered(by_hand.DIMENSION, b"\xe4V", "?V"), lettered(by_hand.DIMENSION, b"\xb0C", "degC"),
+      (b"\xb5V", "µV".encode(), "μV".encode(), b"\xe6V", b"\x83\xcaV")),
+    lettered(by_hand.DIMENSION, b"\xb0C", "degC"), lettered(by_hand.DIMENSION, b"?\xb5V", "?uV"),
+    # GOOD has three signals, and so the dimension of the first is at 256 + 3 * 96
+    *(no_dimension(text, at) for text, at in (
+        (b"\xe4V", 544), (b"\xecV", 544), (b"\xa6\xccV", 544), (b"\xa3gV", 544), (b"\xf8C", 544),
+        ("мкВ".encode(), 544), (b"\x83V", 544), (b"\xcaV", 544), (b"\x83\xca\xb5V", 544),
+        (b"V\x83\xca", 545), (b"uV\0x", 546), (b"uV/\xa0", 547))),
+    no_dimension(b"m\xcaV", 553, 2), no_dimension(b"\xecV", 456, 2, PLAIN),
+    no_dimension(b"\xecV", 544, 1, at_column(by_hand.LABEL, 1, b"\xe4")(GOOD)),
     lettered(by_hand.TRANSDUCER, "µμ°ºΩ²³±ÄäÖöÜüßÆæÅåØø".encode(),
              "uudegdegOhm23+-AeaeOeoeUeuessAEaeAaaaOeoe"),
     lettered(by_hand.TRANSDUCER, b"\xc0\xe3\xc7\xe7\xd1\xfd\xff", "AaCcNyy")]

@@ -5,7 +5,7 @@ pub returns : goal.returns
 returns c = λ t. inl (
   c.in_ok-keeps_number.ensures c.if-not-branch.false,
   c.in_ok-keeps_number-2.ensures c.if-not-branch-2.false,
-  c.in_ok-keeps_letters.ensures t,
+  c.in_ok-keeps_dimension.ensures t,
 )
 
 pub returns-then-branch : goal.returns-then-branch
