@@ -31,8 +31,9 @@ TEXTS = (b"", b"X", b"-1", b"0", b"3", b"99999999", b"1e3", b"-1.5E2", b".5", b"
          b"+5", b"m\xb5V", b"\x83\xcaV", b"\xecV", "Müller".encode(), b"\0", b"Haagse Harry",
          b"P7 f 2-may-1951 X", b"X X X X", b"MCH-0234567 F 02-MAY-1951 Haagse_Harry",
          b"Startdate X X X X", b"Startdate 02-MAR-2002 N1 T3 REC5", b"Startdate 02.03.2002",
-         b"EDF+C", b"EDF+D", b"EDF", b"BIOSEMI", b"02.03.02", b"2.3.02", b"31.12.yy", b"24.00.00", b"23:59:50", b"0.5",
-         b"EDF Annotations", b"EDF Annotations ", b"-32768", b"32767", b"-2048", b"2048")
+         b"EDF+C", b"EDF+D", b"EDF", b"BIOSEMI", b"02.03.02", b"2.3.02", b"31.12.yy", b"24.00.00",
+         b"23:59:50", b"0.5", b"EDF Annotations", b"EDF Annotations ", b"-32768", b"32767",
+         b"-2048", b"2048")
 
 
 def spoilt(rng: random.Random, data: bytes) -> bytes:

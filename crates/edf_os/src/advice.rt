@@ -77,7 +77,7 @@ fn on_header(fault: &HeaderFault) -> Row {
         ),
         HeaderFault::CutSignals => Never(", so it was cut: send it again"),
         HeaderFault::UnprintableSignals { .. } => Instead(
-            ", often a micro or degree sign: edfmend spells them in ASCII",
+            ", often a micro or degree sign: edfmend spells those that it knows in ASCII",
             "edfmend can't read this: see man edfmend",
         ),
         HeaderFault::Annotations => Instead(
