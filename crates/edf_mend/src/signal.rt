@@ -56,8 +56,11 @@ fn keeps_dimension(alloc: Global, old: &[u8], new: &[u8]) -> Result<bool, AllocE
     let Some(text) = dimension(alloc, unfilled(old))? else {
         return Ok(false);
     };
+    if text.len() > old.len() {
+        return Ok(false);
+    }
     let field = fitted_as(alloc, old, text.as_slice())?;
-    Ok(text.len() <= old.len() && new == field.as_slice())
+    Ok(new == field.as_slice())
 }
 
 /// Is true where nothing is measured: both limits are the digital ones, without a dimension.
