@@ -112,7 +112,7 @@ def look(page: str, tracked: list) -> list:
 WRONG = (("| `edf_tal` |", "| `edf_tall` |"), ("| `edf_serve` |", "| `edf_serve` \\* |"),
          ("| `edf_time` |", "| `edf_mend` |"), ("`edf_sample` \\*", "`edf_sample`"),
          ("Walk;", ";"), ("Cut CutFiles ", "CutFiles Cut Cut "),
-         ("Exchange Session ", "Session Exchange "), ("Decimal Civil", "Decimal Civic"),
+         ("Exchange Session ", "Session Exchange "), ("Civil Decimal", "Civic Decimal"),
          ("`edf_tal/src/check.rt`", "`edf_tal/src/checks.rt`"), ("`checks/told.py`", "`checks/tolled.py`"),
          ("`Summaries.antt`", "`Summary.antt`"), ("meaning::intake`", "meaning::take`"))
 
