@@ -1,10 +1,11 @@
 # shellcheck shell=bash
 # What the scripts of this folder and of ports/arm64 share: which sources the programs and the page
 # are made from, their digest, and where a program is. A machine is named as `uname -m` names it.
-top=$(cd "$(dirname "${BASH_SOURCE[0]}")/.." && pwd)
+top=$(cd "${BASH_SOURCE[0]%/*}/.." && pwd)
 programs=(edfstore edfruns edfserve edfmend)
 page_crate=edf_page_exports
 release=$top/release
+dev=$release/dev
 
 # Where the program $1 is when it was built here, for x86-64 or for the machine $2; for machines
 # that no program is made for it prints nothing. And where the page is.
@@ -36,15 +37,20 @@ crates_below() {
     }' "$top/crates.txt"
 }
 
-# The files that the programs $* are made from, below the top, in one order everywhere.
-source_files() {
-  local crate part folders=()
+# Where the files are that the programs $* are made from, below the top; and they, in one order
+# everywhere.
+source_folders() {
+  local crate part
+  echo crates.txt
   for crate in $(crates_below "$@"); do
     for part in src specs proofs; do
-      [ ! -d "$top/crates/$crate/$part" ] || folders+=("crates/$crate/$part")
+      [ ! -d "$top/crates/$crate/$part" ] || echo "crates/$crate/$part"
     done
   done
-  (cd "$top" && { echo crates.txt && find "${folders[@]}" -type f; } | LC_ALL=C sort)
+}
+source_files() {
+  # shellcheck disable=SC2016     # sh puts them in
+  source_folders "$@" | (cd "$top" && xargs -d '\n' sh -c 'find "$@" -type f' sh) | LC_ALL=C sort
 }
 
 # What the programs for the machine $1 are made from besides: for x86-64 nothing.
@@ -62,10 +68,62 @@ page_files() {
   } | LC_ALL=C sort)
 }
 
-# The SHA-256 of the names and the contents of all files that a release is made from.
+# The SHA-256 of the names and the contents of the files that are read.
+digest() {
+  (cd "$top" && LC_ALL=C sort -u | xargs -d '\n' sha256sum) | sha256sum | cut -d ' ' -f 1
+}
+
+# That of all that a release is made from, and that of the programs for x86-64 alone.
 sources_digest() {
-  (cd "$top" && { source_files "${programs[@]}" && port_files aarch64 && page_files; } |
-    LC_ALL=C sort -u | xargs -d '\n' sha256sum) | sha256sum | cut -d ' ' -f 1
+  { source_files "${programs[@]}" && port_files aarch64 && page_files; } | digest
+}
+programs_digest() {
+  source_files "${programs[@]}" | digest
+}
+
+# Finds, by these words of `find`, what says which files these are, and what they are: they, the
+# folders that they are in, and the scripts here.
+look() {
+  (cd "$top" && shopt -s nullglob && find crates/* -maxdepth 0 "$@" &&
+    find crates.txt bin page ports crates/*/{src,specs,proofs} -path ports/arm64/out -prune -o "$@")
+}
+
+# The sum of the sizes, times and numbers of what is read, a name a line.
+listing() {
+  (cd "$top" && xargs -d '\n' stat -c '%n %s %.Y %.Z %i' 2>/dev/null) | sha256sum
+}
+
+# What `$1_digest` prints. It is kept in release/out/$1, before the listing that it is of and the
+# names of that, and holds while the listing is the same. Who can't write there makes it anew
+# each time.
+kept_digest() {
+  local of='' digest='' new
+  if [ -r "$release/out/$1" ]; then
+    { read -r digest of && [ "$of" = "$(listing)" ] || digest=; } <"$release/out/$1"
+  fi
+  if [ -z "$digest" ]; then
+    new=$({ umask 022 && mkdir -p "$release/out" && mktemp "$release/out/new.XXXXXX"; } 2>/dev/null)
+    digest=$("$1_digest")
+    [ -z "$new" ] || keep "$digest" "$new" "$release/out/$1"
+  fi
+  echo "$digest"
+}
+
+# Keeps the digest $1 in the file $3, by way of the empty file $2 that was made before the reading,
+# if nothing changed since: each change sets a time (ctime) by the clock of the file system, which
+# no program sets otherwise. What changed in the same tick counts as changed: a later change would
+# get the same time. So the one-thousand-millionth of a second: `find` knows "later" alone.
+keep() {
+  local names sum
+  names=$(look -print)
+  sum=$(listing <<<"$names")
+  if touch -r "$2" -d '-0.000000001 seconds' "$2" &&
+    [ -z "$(look -newercm "$2" -print -quit)" ] &&
+    printf '%s\n' "$1 $sum" "$names" >"$2" && chmod 644 "$2"; then
+    mv "$2" "$3"
+  else
+    rm -f "$2"
+  fi
 }
 
 # The version that the sources say. One under development ends in -dev.
@@ -106,17 +164,17 @@ package_version() {
   fi
 }
 
-# Whether $1 is there and none of the files that are read is newer.
+# Whether $1 is there and no file that is read, or is in a folder that is read, is newer.
 is_newest() {
   # shellcheck disable=SC2016     # sh puts them in
   [ -e "$1" ] && [ -z "$(cd "$top" &&
-    xargs -d '\n' sh -c 'find "$@" -newer "$0" -print -quit' "$1")" ]
+    xargs -d '\n' sh -c 'find "$@" -type f -newer "$0" -print -quit' "$1")" ]
 }
 
 # Whether the file $1, which was made of the crate $2 for the machine $3, is there and no source of
 # it is newer.
 is_newer() {
-  [ -e "$1" ] && { source_files "$2" && port_files "$3"; } | is_newest "$1"
+  [ -e "$1" ] && { source_folders "$2" && port_files "$3"; } | is_newest "$1"
 }
 
 # Whether the program $1 was built here, for x86-64 or for the machine $2, and is not stale; and the
@@ -134,54 +192,93 @@ names_arm64() {
   [[ $1 =~ ^logic=proved\ .*target=aarch64-unknown-linux-gnu\  && ! $1 =~ (hides|bugs)= ]]
 }
 
-# Whether the release was made from the sources that lie here.
+# Whether the folder $1 has programs that were made from the sources that lie here: its SOURCES is
+# what `$2_digest` prints.
+is_of_these() {
+  [ -f "$1/SOURCES" ] && [ "$(<"$1/SOURCES")" = "$(kept_digest "$2")" ]
+}
 is_released() {
-  [ -f "$release/SOURCES" ] && [ "$(cat "$release/SOURCES")" = "$(sources_digest)" ]
+  is_of_these "$release" sources
 }
 
 # The archive of programs for the machine $1 that SHA256SUMS names, if it names one.
 released_archive() {
-  sed -n "s/^[0-9a-f]*  \(.*-$1-linux\.tar\.xz\)\$/\1/p" "$release/SHA256SUMS"
+  local name
+  while read -r _ name; do
+    [[ $name != *-"$1"-linux.tar.xz ]] || echo "$name"
+  done <"$release/SHA256SUMS"
 }
 
-# Unpacks the released archive for x86-64, or for the machine $2, once, and prints the path of the
-# program $1 of it. The archive must have the sum that SHA256SUMS says.
-released_program() {
-  local archive sum folder new
-  archive=$(released_archive "${2:-x86_64}")
-  [ -n "$archive" ] || return 1
-  sum=$(sed -n "s/  $archive\$//p" "$release/SHA256SUMS")
-  folder=$release/out/$sum
-  if [ ! -x "$folder/$1" ]; then
-    (cd "$release" && echo "$sum  $archive" | sha256sum --quiet -c >&2) || return 1
-    mkdir -p "$release/out" && new=$(mktemp -d "$release/out/new.XXXXXX") || return 1
-    if ! tar -xJf "$release/$archive" -C "$new" --strip-components=1; then
-      rm -rf "$new"
-      return 1
-    fi
-    # Another run may have been first: then its folder stays.
-    mv -T "$new" "$folder" 2>/dev/null || rm -rf "$new"
+# The archive in release/ of programs for the machine $1 that were made from these sources: that of
+# the version under development, which is for x86-64 alone, or the released one; else nothing.
+kept_archive() {
+  if [ "$1" = x86_64 ] && is_of_these "$dev" programs; then
+    echo dev/programs.tar.xz
+  elif is_released; then
+    released_archive "$1"
   fi
-  echo "$folder/$1"
+}
+
+# Unpacks the archive $1 of release/ into release/out/$2, where $2 is its sum, which others may read
+# and run, and nobody else may write, whatever the umask. A line says why it can't be.
+unpack() {
+  local new
+  cd "$release" || return 3
+  if ! echo "$2  $1" | sha256sum --status -c 2>/dev/null; then
+    echo "release/$1 is not as SHA256SUMS says: restore it by 'git checkout release'"
+  elif ! command -v xz >/dev/null; then
+    echo "release/$1 could not be unpacked: install xz-utils"
+  elif [ ! -w out ] && { [ -e out ] || [ ! -w . ]; }; then
+    echo "release/out can't be written by this user: clone as this user, or run this once as the" \
+      "owner of the clone"
+  elif umask 022 && mkdir -p out && new=$(mktemp -d out/new.XXXXXX); then
+    if tar -xJf "$1" -C "$new" --strip-components=1 && chmod 755 "$new"; then
+      # Another run may have been first: then its folder stays.
+      mv -T "$new" "out/$2" 2>/dev/null || rm -rf "$new"
+      return
+    fi
+    rm -rf "$new"
+  fi
+  return 3
+}
+
+# The path of the program $2 in the archive $1 of release/, which is unpacked once.
+unpacked_program() {
+  local path=$release/$1 sum name why
+  while read -r sum name && [ "$name" != "${1##*/}" ]; do :; done <"${path%/*}/SHA256SUMS"
+  if [ ! -x "$release/out/$sum/$2" ] && ! why=$(unpack "$1" "$sum" 2>&1); then
+    echo "bin/$2: ${why%%$'\n'*}" >&2
+    return 3
+  fi
+  echo "$release/out/$sum/$2"
+}
+
+# That of the released program $1 for x86-64, or for the machine $2.
+released_program() {
+  unpacked_program "$(released_archive "${2:-x86_64}")" "$1"
 }
 
 # The path of the program $1 to run on this machine, or on the machine $2: the one that was built
-# here, where no source is newer; else the released one, where the release was made from these
+# here, where no source is newer; else the one in release/ or release/dev that was made from these
 # sources; else, for x86-64, it is proved and built first.
 chosen_program() {
-  local machine=${2:-$(uname -m)}
+  local machine=${2:-$(uname -m)} archive
   if is_fresh "$1" "$machine"; then
     built "$1" "$machine"
-  elif is_released && released_program "$1" "$machine"; then
-    :
+    return
+  fi
+  archive=$(kept_archive "$machine")
+  if [ -n "$archive" ]; then
+    unpacked_program "$archive" "$1"
   elif [ "$machine" != x86_64 ]; then
-    echo "$1: of these sources there is no program for $machine here; for arm64, which is" \
-      "aarch64, ports/arm64/build makes it on x86-64" >&2
+    archive=$(released_archive "$machine")
+    echo "bin/$1: of these sources there is no program for $machine here; ports/arm64/build makes" \
+      "it for aarch64, on x86-64${archive:+; release/$archive has that of other sources}" >&2
     return 3
   else
     echo "bin/$1: the programs in release/ are of other sources than these. To run them all the" \
       "same, stop this and unpack $release/$(released_archive x86_64)" >&2
-    # Status 1 says that the released bytes are others: what was proved here is run all the same.
+    # Status 1 says that the bytes in release/ are others: what was proved here is run all the same.
     "$top/bin/build" "$1" >&2 </dev/null || [ $? = 1 ] || return 3
     built "$1"
   fi
