@@ -1,29 +1,32 @@
-"""Runs the first commands of a fresh clone, and the comparison of a program with the released one.
+"""Runs the first commands of a fresh clone, and the comparison of a program with the one that is
+kept in the repository.
 
     python3 -m checks.released
 
-It clones the state that is committed here: the release must have been made from its sources. It
-needs git, tar and xz; no toolchain is on the path. In the clone `bin/edfstore` and `bin/edfruns`
-answer within SECONDS, and as the plain model does, and each program has the version of the sources.
-Then a small script is the toolchain's command `rt`: it prints the build that TOOLCHAIN names, and
-`rt ci` does nothing, or fails. With the released programs where a build leaves them `bin/compare`
-and `.ci/run` end with status 0. They end with another status where one byte of a program is
-changed, and `.ci/run` where `rt ci` fails; where the sources or the toolchain are others, or no
-program is there, a line says so. Where the machine says that it is one for arm64, the scripts in
-`bin` take the programs for that.
+It clones the state that is committed here: release/ or release/dev must have been made from its
+sources. It needs git, tar and xz; no toolchain is on the path. In the clone `bin/edfstore` and
+`bin/edfruns` answer within SECONDS, and as the plain model does, and each program has the version
+of the sources. Then a small script is the toolchain's command `rt`: it prints the build that
+TOOLCHAIN names, and `rt ci` does nothing, or fails. With the kept programs where a build leaves
+them `bin/compare` and `.ci/run` end with status 0. They end with another status where one byte of a
+program is changed, and `.ci/run` where `rt ci` fails; where the sources or the toolchain are
+others, or no program is there, a line says so. Where the machine says that it is one for arm64, the
+scripts in `bin` take the programs for that, and none of release/dev.
 
-Where dpkg-deb is here `bin/release` of these programs under a version of its own writes the same
+Where dpkg-deb is here `bin/release` of released programs under a version of its own writes the same
 release twice, a clone in another folder too, and `bin/release --documents`, also once it is
 committed. With another word it is refused then, and written as the next revision; that of the
 commit before is refused still. As it is committed here it is never written with other bytes; a line
 tells what is done. None is written where a verdict does not name arm64, or where the sources have
-another version.
+another version. Of a version under development `bin/release --dev` writes the same release/dev
+twice, and nothing else; `bin/release` writes nothing.
 """
 import itertools
 import os
 import re
 import shutil
 import sys
+from dataclasses import dataclass
 from pathlib import Path
 
 from checks.lib import arguments, measure, model, printed, runs
@@ -37,11 +40,11 @@ PROGRAMS = ("edfstore", "edfruns", "edfserve", "edfmend")
 PAGE, BUILT_PAGE = "edfstore.html", "crates/edf_page_exports/out"
 MACHINES = {"x86_64": ("crates/{0}/out/{0}", 62), "aarch64": ("ports/arm64/out/{0}", 183)}
 NAMED = "logic=proved main= target=aarch64-unknown-linux-gnu sum=0\n"
-SAME = "release: {}, as it was built here, has the same bytes\n"
-OTHER = "release: {}, as it was built here, does NOT have the same bytes\n"
-NONE = ("release: no {} lies here to compare: rt ci kept what an earlier run on this machine "
+SAME = "{}: {}, as it was built here, has the same bytes\n"
+OTHER = "{}: {}, as it was built here, does NOT have the same bytes\n"
+NONE = ("{}: no {} lies here to compare: rt ci kept what an earlier run on this machine "
         "proved and ran\n")
-OTHER_SOURCES = "release: made from other sources than these\n"
+OTHER_SOURCES = "release: neither it nor release/dev was made from these sources\n"
 NO_TOOLCHAIN = ("bin/build: this takes the toolchain of release/TOOLCHAIN, whose command 'rt' is "
                 "not on the path\n")
 REFUSED = ("bin/release: release/edfstore-{}-x86_64-linux.tar.xz is committed with other bytes, "
@@ -57,9 +60,25 @@ esac
 """
 
 
-def comparisons(other: str = "") -> str:
-    """What bin/compare prints where no file but this one has other bytes."""
-    return "".join((OTHER if name == other else SAME).format(name) for name in (*PROGRAMS, PAGE))
+@dataclass(frozen=True)
+class Kept:
+    """Where the programs of the committed sources are, the machines that they are for, and what
+    bin/compare compares."""
+    place: str
+    machines: tuple[str, ...]
+    compared: tuple[str, ...]
+
+    def lines(self, line: str, other: str = "", other_line: str = OTHER) -> str:
+        """The line of each file, but for one that has another."""
+        return "".join((other_line if name == other else line).format(self.place, name)
+                       for name in self.compared)
+
+    def toolchain(self) -> str:
+        return (arguments.TOP / self.place / "TOOLCHAIN").read_text().strip()
+
+
+RELEASE = Kept("release", tuple(MACHINES), (*PROGRAMS, PAGE))
+DEV = Kept("release/dev", ("x86_64",), PROGRAMS)
 
 
 class Clones:
@@ -91,6 +110,10 @@ class Clones:
     def told(self, clone: Path, line: str) -> str:
         """What a line of the shell prints that uses the functions of bin/common.sh."""
         return self.run(clone, "bash", "-c", f". bin/common.sh && {line}").out.decode().strip()
+
+    def kept(self) -> "Kept | None":
+        archive = Path("release") / self.told(self.fresh(), "kept_archive x86_64")
+        return {it.place: it for it in (RELEASE, DEV)}.get(str(archive.parent))
 
 
 def first_commands(checks: Checks, clones: Clones) -> None:
@@ -135,28 +158,29 @@ def change_a_source(clone: Path) -> None:
         source.write("// another\n")
 
 
-def built(clones: Clones) -> Path:
-    """A clone with the released programs and page where `rt ci`, ports/arm64/build and bin/page
-    leave what they built."""
+def built(clones: Clones, kept: Kept) -> Path:
+    """A clone with the kept programs, and the released page, where `rt ci`, ports/arm64/build and
+    bin/page leave what they built."""
     clone = clones.fresh()
-    for name, (machine, (place, _)) in itertools.product(PROGRAMS, MACHINES.items()):
-        target = clone / place.format(name)
+    for name, machine in itertools.product(PROGRAMS, kept.machines):
+        target = clone / MACHINES[machine][0].format(name)
         target.parent.mkdir(exist_ok=True)
-        shutil.copy(clones.told(clone, f"released_program {name} {machine}"), target)
+        kept_here = f'unpacked_program "$(kept_archive {machine})" {name}'
+        shutil.copy(clones.told(clone, kept_here), target)
         target.with_suffix(".verdict").write_text(NAMED)
     (clone / BUILT_PAGE).mkdir()
     shutil.copy(clone / "release" / PAGE, clone / BUILT_PAGE)
     return clone
 
 
-def on_machines(checks: Checks, clones: Clones) -> None:
+def on_machines(checks: Checks, clones: Clones, kept: Kept) -> None:
     """Which program the scripts take, by what the machine says of itself."""
     clone, uname = clones.fresh(), clones.stub / "uname"
     for machine, name in itertools.product((*MACHINES, "armv7l"), PROGRAMS):
         uname.write_text(OTHER_MACHINE.format(machine))
         uname.chmod(0o755)
         ran = clones.run(clone, "bash", "-c", f". bin/common.sh && chosen_program {name}")
-        kinds = [MACHINES[machine][1]] if machine in MACHINES else []
+        kinds = [MACHINES[machine][1]] if machine in kept.machines else []
         found = [kind_of(Path(line)) for line in ran.out.decode().splitlines()]
         checks.same(f"{name} on {machine}", (found, ran.status), (kinds, 0 if kinds else 3))
     uname.unlink()
@@ -175,9 +199,18 @@ def compared(checks: Checks, clones: Clones, what: str, clone: Path, out: str) -
     checks.same(f".ci/run, {what}: the last lines", gate.out.decode()[-len(out):], out)
 
 
-def release_of(clone: Path) -> dict:
-    files = [path for path in (clone / "release").iterdir() if path.is_file()]
+def release_of(clone: Path, place: str = RELEASE.place) -> dict:
+    files = [path for path in (clone / place).iterdir() if path.is_file()]
     return {path.name: path.read_bytes() for path in files}
+
+
+def refused(checks: Checks, clones: Clones, clone: Path, *words: str) -> None:
+    """`bin/release` with these words, which leaves all as it is."""
+    before = release_of(clone)
+    ran = clones.run(clone, "bin/release", *words)
+    checks.same(f"bin/release {' '.join(words)}: the status and how many lines",
+                (ran.status, ran.err.count(b"\n")), (3, 1))
+    checks.same("the release is as it was", release_of(clone) == before, True)
 
 
 def of_another_version(checks: Checks, clones: Clones, clone: Path) -> None:
@@ -190,6 +223,19 @@ def of_another_version(checks: Checks, clones: Clones, clone: Path) -> None:
                    f"bin/release: {said}\n", 3)
     checks.same("the release is as it was", release_of(clone) == committed, True)
     changelog.write_text(before)
+
+
+def dev_again(checks: Checks, clones: Clones, clone: Path) -> None:
+    """What `bin/release --dev` writes, twice."""
+    before, committed, written = release_of(clone), release_of(clone, DEV.place), []
+    for _ in range(2):
+        checks.same("bin/release --dev: the status",
+                    clones.run(clone, "bin/release", "--dev").status, 0)
+        written.append(release_of(clone, DEV.place))
+    checks.same("release/dev has the committed bytes, twice", written == [committed] * 2, True)
+    checks.same("its files", sorted(committed),
+                ["SHA256SUMS", "SOURCES", "TOOLCHAIN", "programs.tar.xz"])
+    checks.same("the release is as it was", release_of(clone) == before, True)
 
 
 def not_named(checks: Checks, clones: Clones, clone: Path) -> None:
@@ -258,7 +304,7 @@ def written_again(checks: Checks, clones: Clones, clone: Path, version: str) -> 
     checks.same("once it is committed: the status",
                 clones.run(clone, "bin/release", "--documents").status, 0)
     written.append(release_of(clone))
-    elsewhere = built(clones)
+    elsewhere = built(clones, RELEASE)
     begin_version(elsewhere, REVISION)
     checks.same("in another folder: the status", clones.run(elsewhere, "bin/release").status, 0)
     written.append(release_of(elsewhere))
@@ -272,7 +318,7 @@ def written_again(checks: Checks, clones: Clones, clone: Path, version: str) -> 
         checks.same(name, written[0][name], before[name])
     checks.same("the page says the version",
                 f"\n<p>edfstore {version}. ".encode() in written[0][PAGE], True)
-    checks.compare("bin/compare", clones.run(clone, "bin/compare"), comparisons(), "", 0)
+    checks.compare("bin/compare", clones.run(clone, "bin/compare"), RELEASE.lines(SAME), "", 0)
 
 
 def one_content(checks: Checks, clones: Clones, clone: Path, version: str, revision: int) -> None:
@@ -297,7 +343,7 @@ def one_content(checks: Checks, clones: Clones, clone: Path, version: str, revis
     checks.same("the release is as it was", release_of(clone) == last, True)
 
 
-def changed(checks: Checks, clones: Clones, clone: Path, name: str) -> None:
+def changed(checks: Checks, clones: Clones, clone: Path, name: str, kept: Kept) -> None:
     """The comparison where one byte of a program is another, which is put back."""
     program = clone / "crates" / name / "out" / name
     data = bytearray(program.read_bytes())
@@ -306,10 +352,10 @@ def changed(checks: Checks, clones: Clones, clone: Path, name: str) -> None:
     program.write_bytes(data)
     ran = clones.run(clone, "bin/compare")
     lines = ran.out.decode().splitlines(keepends=True)
-    ours = "".join(line for line in lines if line.startswith("release:"))
-    others = [line for line in lines if not line.startswith("release:")]
+    ours = "".join(line for line in lines if line.startswith(f"{kept.place}:"))
+    others = [line for line in lines if not line.startswith(f"{kept.place}:")]
     case = f"a byte of {name} is changed"
-    checks.same(f"bin/compare, {case}", (ours, ran.status), (comparisons(name), 1))
+    checks.same(f"bin/compare, {case}", (ours, ran.status), (kept.lines(SAME, name), 1))
     checks.same(f"which byte, {case}", [f" differ: byte {at + 1}," in line for line in others],
                 [True])
     checks.same(f".ci/run, {case}", clones.run(clone, ".ci/run").status, 1)
@@ -317,14 +363,19 @@ def changed(checks: Checks, clones: Clones, clone: Path, name: str) -> None:
     program.write_bytes(data)
 
 
-def comparison(checks: Checks, clones: Clones) -> None:
-    checks.begin("the comparison with the release")
-    toolchain = (arguments.TOP / "release/TOOLCHAIN").read_text().strip()
+def comparison(checks: Checks, clones: Clones, kept: Kept) -> None:
+    checks.begin("the comparison with what is kept")
+    toolchain = kept.toolchain()
     clones.toolchain(toolchain)
-    compared(checks, clones, "no programs", clones.fresh(), "".join(map(NONE.format, PROGRAMS)))
-    clone = built(clones)
-    compared(checks, clones, "what is released", clone, comparisons())
-    if shutil.which("dpkg-deb"):
+    none = "".join(NONE.format(kept.place, name) for name in PROGRAMS)
+    compared(checks, clones, "no programs", clones.fresh(), none)
+    clone = built(clones, kept)
+    compared(checks, clones, "what is kept", clone, kept.lines(SAME))
+    if kept == DEV:
+        refused(checks, clones, clone)
+        dev_again(checks, clones, clone)
+    elif shutil.which("dpkg-deb"):
+        refused(checks, clones, clone, "--dev")
         as_committed(checks, clones, clone)
         of_another_version(checks, clones, clone)
         version = begin_version(clone, REVISION)
@@ -332,10 +383,10 @@ def comparison(checks: Checks, clones: Clones) -> None:
         written_again(checks, clones, clone, version)
         one_content(checks, clones, clone, version, REVISION)
     for name in PROGRAMS:
-        changed(checks, clones, clone, name)
+        changed(checks, clones, clone, name, kept)
     clones.toolchain(f"{toolchain} and another")
     compared(checks, clones, "another toolchain", clone,
-             f"release: made by another toolchain: {toolchain}\n")
+             f"{kept.place}: made by another toolchain: {toolchain}\n")
     clones.toolchain(toolchain, status=1)
     checks.same(".ci/run, a gate that fails", clones.run(clone, ".ci/run").status, 1)
     clones.toolchain(toolchain)
@@ -351,11 +402,14 @@ def main() -> None:
         folder.mkdir()
         cases.mkdir()
         clones, checks = Clones(folder), Checks(Path("edfstore"), cases)
-        if clones.run(clones.fresh(), "bash", "-c", ". bin/common.sh && is_released").status:
-            sys.exit("the state that is committed here is no released one: bin/release makes it so")
+        kept = clones.kept()
+        if kept is None:
+            sys.exit("neither release/ nor release/dev is of the sources that are committed here: "
+                     "bin/release makes the one, bin/release --dev the other")
+        print(f"{kept.place} is of these sources")
         first_commands(checks, clones)
-        on_machines(checks, clones)
-        comparison(checks, clones)
+        on_machines(checks, clones, kept)
+        comparison(checks, clones, kept)
     checks.end()
 
 

@@ -132,6 +132,7 @@ CHECKS = (
     Check("architecture", "crates and files that ARCHITECTURE has", (), needs=("git",)),
     Check("arm64.host", "answers of the C functions for arm64", (), needs=FOR_ARM64,
           is_for_long=True),
+    Check("first_command", "first commands of a small clone", (), needs=("bash", "tar", "xz")),
     Check("edits.standing", "edits whose lines stand in the sources", ()),
     Check("released", "first commands and comparisons of clones", (),
           needs=("git", "tar", "xz"), is_for_long=True),
