@@ -251,7 +251,7 @@ def as_shown(checks: Checks, bare: Bare) -> None:
             written = bare.shown(shown.script, os.path.dirname(document)).out.decode()
             checks.same(f"{document}: what is printed", shown.differences(written), [])
     for lines in sessions.commands(bare.root / readme[1:], PROGRAMS):
-        script = f"set -e; cp -r examples/oximeter /tmp/first; cd /tmp/first\n{lines}"
+        script = f"set -e; mkdir /tmp/first; cp -r examples /tmp/first; cd /tmp/first\n{lines}"
         checks.same("README: its first commands",
                     bare.shown(script, f"/{SHARED}").outcome()[1:], (b"", 0))
     in_sentences(checks, bare)

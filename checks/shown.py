@@ -4,7 +4,8 @@
 
 Behind a prompt each command must write what stands below it. GUIDE's other blocks, and the commands
 over files that its sentences name, must end with 0, or with the status that STATUS has. README's
-lines that install something are tried by checks.package.
+first block runs by the `bin` of a clone, where these programs are. Its lines that install something
+are tried by checks.package.
 """
 import os
 import re
@@ -25,7 +26,7 @@ GIVEN = "cp night.db a.db; cp part1.edf in.edf; cp $TOP/examples/witness.py ."
 
 class Shown:
     def __init__(self, folder: Path, programs: dict[str, Path]):
-        self.here, self.done, self.failed = folder / "here", 0, 0
+        self.folder, self.here, self.done, self.failed = folder, folder / "here", 0, 0
         self.variables = {"TOP": str(TOP), "TMPDIR": str(folder), "HERE": str(self.here),
                           "PATH": f"{folder}/bin:{os.environ['PATH']}"}
         (folder / "bin").mkdir()
@@ -34,9 +35,9 @@ class Shown:
         self.night = folder / "first"
         shutil.copytree(TOP / "examples/oximeter", self.night)
 
-    def shell(self, script: str, folder: Path) -> measure.Ran:
+    def shell(self, script: str, folder: Path, **others: str) -> measure.Ran:
         return measure.ran("bash", "-o", "pipefail", "-c", script, folder=folder,
-                           added=self.variables)
+                           added=self.variables | others)
 
     def same(self, what: str, got: object, expected: object) -> None:
         self.done += 1
@@ -55,8 +56,10 @@ class Shown:
 
     def readme(self) -> None:
         page = TOP / "README.md"
-        for lines in sessions.commands(page, tuple(OPTIONS)):
-            self.same(lines, self.shell(f"set -e\n{lines}", self.night).outcome()[1:], (b"", 0))
+        (self.folder / "examples").symlink_to(TOP / "examples")
+        lines, = sessions.commands(page, tuple(OPTIONS))
+        ran = self.shell(f"set -e\n{lines}", self.folder, PATH=os.environ["PATH"])
+        self.same(lines, ran.outcome()[1:], (b"", 0))
         for block in PROMPTED.findall(page.read_text()):
             self.session(block, TOP)
 

@@ -5,7 +5,7 @@ from pathlib import Path
 
 FENCED = re.compile(r"^```\n(.*?)^```$", re.MULTILINE | re.DOTALL)
 UNFILLED = re.compile(r"^\.nf\n(.*?)^\.fi$", re.MULTILINE | re.DOTALL)
-PROMPT, MARK = "$ ", "== a command ended"
+PROMPT, MARK, CLONE = "$ ", "== a command ended", "PATH=$PWD/bin:$PATH; "
 
 
 @dataclass(frozen=True)
@@ -51,6 +51,8 @@ def sessions(document: Path) -> list:
 
 
 def commands(document: Path, programs: tuple) -> list:
-    """The blocks without a prompt whose every line runs one of these programs."""
+    """The blocks without a prompt whose every line runs one of these programs, the first maybe
+    after it has set PATH."""
     return [block for block in blocks(document)
-            if all(line.split(" ")[0] in programs for line in block.splitlines())]
+            if all(line.removeprefix(CLONE).split(" ")[0] in programs
+                   for line in block.splitlines())]
