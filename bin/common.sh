@@ -90,7 +90,7 @@ look() {
 
 # The sum of the sizes, times and numbers of what is read, a name a line.
 listing() {
-  (cd "$top" && xargs -d '\n' stat -c '%n %s %.Y %.Z %i' 2>/dev/null) | sha256sum
+  cd "$top" && xargs -d '\n' stat -c '%n %s %.Y %.Z %i' 2>/dev/null | sha256sum
 }
 
 # What `$1_digest` prints. It is kept in release/out/$1, before the listing that it is of and the
@@ -195,7 +195,8 @@ names_arm64() {
 # Whether the folder $1 has programs that were made from the sources that lie here: its SOURCES is
 # what `$2_digest` prints.
 is_of_these() {
-  [ -f "$1/SOURCES" ] && [ "$(<"$1/SOURCES")" = "$(kept_digest "$2")" ]
+  local digest
+  [ -f "$1/SOURCES" ] && read -r digest <"$1/SOURCES" && [ "$digest" = "$(kept_digest "$2")" ]
 }
 is_released() {
   is_of_these "$release" sources
