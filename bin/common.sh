@@ -81,45 +81,45 @@ programs_digest() {
   source_files "${programs[@]}" | digest
 }
 
-# Finds, by these words of `find`, what says which files these are, and what they are: they, the
-# folders that they are in, and the scripts here.
+# Runs `find` with these words over the files that the digests are of, their folders, and the scripts
+# that say which they are.
 look() {
   (cd "$top" && shopt -s nullglob && find crates/* -maxdepth 0 "$@" &&
     find crates.txt bin page ports crates/*/{src,specs,proofs} -path ports/arm64/out -prune -o "$@")
 }
 
-# The sum of the sizes, times and numbers of what is read, a name a line.
+# The sum of a listing of the files and folders that are read: names, sizes, times, inodes.
 listing() {
   cd "$top" && xargs -d '\n' stat -c '%n %s %.Y %.Z %i' 2>/dev/null | sha256sum
 }
 
-# What `$1_digest` prints. It is kept in release/out/$1, before the listing that it is of and the
-# names of that, and holds while the listing is the same. Who can't write there makes it anew
-# each time.
+# What `$1_digest` prints. It is kept in release/out/$1, with the listing and the names in it, and
+# holds while the listing is the same. A user who can't write there makes it anew each time.
 kept_digest() {
-  local of='' digest='' new
+  local listed digest='' new
   if [ -r "$release/out/$1" ]; then
-    { read -r digest of && [ "$of" = "$(listing)" ] || digest=; } <"$release/out/$1"
+    { read -r digest listed && [ "$listed" = "$(listing)" ] || digest=; } <"$release/out/$1"
   fi
   if [ -z "$digest" ]; then
     new=$({ umask 022 && mkdir -p "$release/out" && mktemp "$release/out/new.XXXXXX"; } 2>/dev/null)
-    digest=$("$1_digest")
-    [ -z "$new" ] || keep "$digest" "$new" "$release/out/$1"
+    if digest=$("$1_digest") && [ -n "$new" ]; then
+      keep "$digest" "$new" "$release/out/$1"
+    fi
   fi
   echo "$digest"
 }
 
-# Keeps the digest $1 in the file $3, by way of the empty file $2 that was made before the reading,
-# if nothing changed since: each change sets a time (ctime) by the clock of the file system, which
-# no program sets otherwise. What changed in the same tick counts as changed: a later change would
-# get the same time. So the one-thousand-millionth of a second: `find` knows "later" alone.
+# Keeps the digest $1 in the file $3, by way of the empty file $2, which was made before the sources
+# were read. All of them must have changed before that, by the clock of the file system: then every
+# later change gives another ctime, which no program sets, however coarse that clock is. `find`
+# knows "later than" alone, so the file is made the least bit older.
 keep() {
-  local names sum
+  local names listed
   names=$(look -print)
-  sum=$(listing <<<"$names")
+  listed=$(listing <<<"$names")
   if touch -r "$2" -d '-0.000000001 seconds' "$2" &&
     [ -z "$(look -newercm "$2" -print -quit)" ] &&
-    printf '%s\n' "$1 $sum" "$names" >"$2" && chmod 644 "$2"; then
+    printf '%s\n' "$1 $listed" "$names" >"$2" && chmod 644 "$2"; then
     mv "$2" "$3"
   else
     rm -f "$2"
@@ -220,8 +220,9 @@ kept_archive() {
   fi
 }
 
-# Unpacks the archive $1 of release/ into release/out/$2, where $2 is its sum, which others may read
-# and run, and nobody else may write, whatever the umask. A line says why it can't be.
+# Unpacks the archive $1 of release/, which must have the sum $2, into release/out/$2. Whatever the
+# umask is, all users may run what is there, and only this one may change it. A line says what is in
+# the way.
 unpack() {
   local new
   cd "$release" || return 3
