@@ -109,8 +109,10 @@ def another_user(checks: Checks, clone: Clone) -> None:
             checks.compare("nobody", clone.shell("bin/edfstore", *nobody), "", NOT_OURS, 3)
         checks.compare(f"umask {mask}", clone.shell(f"umask {mask}; bin/edfstore"),
                        "edfstore of release\n", "", 0)
-        names = ("", clone.unpacked(), f"{clone.unpacked()}/edfruns", "sources")
-        checks.same(f"umask {mask}: modes", [oct((out / it).stat().st_mode)[-4:] for it in names],
+        unpacked = out / clone.unpacked()
+        there = (out, unpacked, unpacked / "edfruns", out / "sources")
+        checks.same(f"umask {mask}: modes",
+                    [oct(it.stat().st_mode)[-4:] for it in there if it.exists()],
                     ["0755", "0755", "0755", "0644"])
         if is_tried:
             checks.compare("nobody, then", clone.shell("bin/edfruns", *nobody),
@@ -159,11 +161,10 @@ def ticks(checks: Checks, clone: Clone) -> None:
     source.write_text("a source")
     changed = source.stat().st_ctime_ns
     for later in (0, 1):
-        kept.unlink()
+        kept.unlink(missing_ok=True)
         clone.shell(f"{TICK} . bin/common.sh; is_released",
                     TIME=f"@{(changed + later) // 10**9}.{(changed + later) % 10**9:09}")
         checks.same(f"kept {later} ns after it", kept.exists(), later > 0)
-        kept.touch()
 
 
 def under_development(checks: Checks, clone: Clone) -> None:
