@@ -13,8 +13,11 @@ changed, and why. A command that takes over MOST times its last count fails. A c
 what it costs writes the new count there, with the reason. --of-release fails where a command takes
 over RATIO times what it took in 1.3.3, say 1.02, whatever was written since.
 
+callgrind sees no page faults. So the last line of the table has bytes: the most memory that `take`
+of one small file into a new store may have.
+
 What `edfstore` and `edfruns` write is compared with the plain model, so that a command that does
-less is not taken for a fast one. It needs valgrind, on x86-64.
+less is not taken for a fast one. It needs valgrind and GNU time, on x86-64.
 """
 import sys
 from dataclasses import dataclass
@@ -24,6 +27,8 @@ from typing import NamedTuple
 from checks.lib import arguments, checks, edf, gapped, measure, model, night, printed, runs
 
 TABLE = arguments.TOP / "bench/instructions.txt"
+SMALL = arguments.TOP / "examples/oximeter/part1.edf"
+MEMORY = "memory of a small take"   # the line of the table that has bytes
 MOST, LEAST = 1.10, 0.90
 LENGTH = 150        # of the path of the folder: a longer one takes more instructions
 NIGHT = night.Night(records=1_440, samples=(256, 256, 128, 128, 64), fragments=6)
@@ -131,8 +136,9 @@ def main() -> None:
     parser.add_argument("--of-release", type=float, metavar="RATIO",
                         help="at most so many times what 1.3.3 took")
     given = parser.read()
-    measure.need("valgrind")
+    measure.need("valgrind", "/usr/bin/time")
     table, rows, faults, less = read_table(), [], [], []
+    most = table.pop(MEMORY).wanted()
     with measure.scratch() as scratch:
         folder, named = Path(scratch, "n" * max(1, LENGTH - len(scratch))), set(table)
         folder.mkdir()
@@ -149,14 +155,17 @@ def main() -> None:
             wrong = fault(command, it, ratio, given.of_release or MOST)
             faults += [f"{command.name}: {wrong}"] if wrong else []
             less += [command.name] if ratio < LEAST else []
+        peak = measure.timed(given.program, "take", "small.db", SMALL, folder=folder).peak
+    faults += [f"{MEMORY}: {peak:,} bytes, over {most:,}"] if peak > most else []
     faults += [f"{name}: a line of {TABLE.name}, and no command here" for name in sorted(named)]
     measure.table(("command", "instructions", "of 1.3.3's" if given.of_release else "of the last"),
                   rows)
+    print(f"{MEMORY}: {measure.mb(peak)}, of {measure.mb(most)}")
     for name in less:
         print(f"{name}: less than {LEAST} times; the smaller count may stand in {TABLE.name}")
     for text in faults:
         print(text)
-    checks.end(len(rows), len(faults))
+    checks.end(len(rows) + 1, len(faults))
 
 
 if __name__ == "__main__":
