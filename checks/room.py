@@ -4,14 +4,13 @@ memory: then its file is read twice, and not seven times.
     python3 -m checks.room [--program PATH] [--edfserve PATH]
 
 A night of 19 MB is listed where files of this check stand in place of /proc/meminfo,
-/proc/self/cgroup and what is below /sys/fs/cgroup. All pages are kept, with room for 500 at
-least, where that takes up a quarter at most of what is free there, and of what each limit leaves,
-of version 1 or 2 of the groups: a kilobyte less, and they are not; nor where a number is missing or
-none. The list is the same. Then the night is listed with less and less room for addresses: where
-the list is told without kept pages it is told with them too, since an opening that lacks memory for
-them is tried without. A session over a night has, once it has answered, little more memory than one
-over a new store: what its opening took is given back, whatever its rows are. It needs root, who may
-mount, and a minute.
+/proc/self/cgroup and what is below /sys/fs/cgroup. All pages are kept where that takes up a quarter
+at most of what is free there, and of what each limit leaves, of version 1 or 2 of the groups: a
+kilobyte less, and they are not; nor where a number is missing or none. The list is the same. Then
+the night is listed with less and less room for addresses: where the list is told without kept pages
+it is told with them too, since an opening that lacks memory for them is tried without. A session
+over a night has, once it has answered, little more memory than one over a new store: what its
+opening took is given back, whatever its rows are. It needs root, who may mount, and a minute.
 """
 import resource
 import shutil
@@ -24,9 +23,10 @@ from checks.lib import arguments, disks, measure, night, printed
 from checks.lib.checks import Lost, compare, end
 from checks.lib.serving import Client
 
-# More than twice as many pages as are kept of any store: of fewer, some reading is spared anyway.
+# More than twice the 2,000 pages that are kept without room for all: of fewer, some reading is
+# spared anyway.
 NIGHT = replace(night.SHORT, records=9_000)
-PAGE, SHARE, FEWEST = 4_096, 4, 500
+PAGE, SHARE = 4_096, 4
 # What a session over a night may have more than one over a new store, which has its pages too
 SPARE, SETTLED = 4_000_000, 0.2
 # Nights of 20 MB, whose rows have 1.7 kB, 6.7 kB, and 200 kB
@@ -68,7 +68,7 @@ def first_limit(folder: str, most: str, used: str) -> tuple:
 
 def systems(store: int) -> list:
     """Those that are tried, for a store of so many bytes."""
-    wanted = SHARE * max(store, FEWEST * PAGE)
+    wanted = SHARE * store
     free, less = f" {wanted // 1_024} kB", f" {wanted // 1_024 - 1} kB"
     much, used = f" {wanted} kB", 5_000_000
     just, short = f"{wanted + used}\n", f"{wanted + used - 1}\n"
@@ -220,7 +220,7 @@ def main():
         with measure.scratch() as folder:
             bench = Bench(given.program, Path(folder))
             size = bench.store.stat().st_size
-            compare("whole pages, more than twice as many as are kept of any store",
+            compare("whole pages, more than twice as many as are kept without room for all",
                     (size % PAGE, size // PAGE > 4_000), (0, True))
             tried = try_sessions(given.edfserve, bench)
             tried += try_systems(bench, size)
