@@ -361,8 +361,8 @@ def good_files(script: MendScript) -> None:
     script.mends("loose_good", fragment(Header((EEG, annotations_signal(9)), reserved="EDF+C"),
                                         [(SAMPLES, keeping("+0.0"))]), of())
     script.title("--dry-run tells the same, and makes no file; what is there stays")
-    given, there = script.add("no_digit.edf", SINGLE[4][1]), script.add("good.edf", of())
-    script.writes(f"{given} --dry-run", SINGLE[4][3])
+    given, there = script.add("no_digit.edf", SINGLE[5][1]), script.add("good.edf", of())
+    script.writes(f"{given} --dry-run", SINGLE[5][3])
     script.writes(f"{given} {there}", error=printed.is_there(there), status=1)
     script.has(there, there)
     script.title("an option that earlier versions had, and what to do instead")

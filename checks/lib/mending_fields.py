@@ -87,8 +87,8 @@ def spelling(text: bytes) -> bytes:
 
 
 def dimension_spelling(text: bytes) -> bytes:
-    if text.startswith(MICRO) and is_printable(text[2:]):
-        return b"u" + text[2:]
+    if text.startswith(MICRO):
+        text = "µ".encode() + text[2:]
     made = [one if " " <= one <= "~" else DIMENSIONS.get(one, "") for one in characters(text)]
     if not all(made):
         raise Refused("E15")

@@ -199,7 +199,7 @@ LIMITS = [
     *(no_dimension(text, at) for text, at in (
         (b"\xe4V", 544), (b"\xecV", 544), (b"\xa6\xccV", 544), (b"\xa3gV", 544), (b"\xf8C", 544),
         ("мкВ".encode(), 544), (b"\x83V", 544), (b"\xcaV", 544), (b"\x83\xca\xb5V", 544),
-        (b"V\x83\xca", 545), (b"uV\0x", 546), (b"uV/\xa0", 547))),
+        (b"V\x83\xca", 545), (b"uV\0x", 546), (b"uV/\xa0", 547), (b"\xb0\xb0\xb0", 544))),
     no_dimension(b"m\xcaV", 553, 2), no_dimension(b"\xecV", 456, 2, PLAIN),
     no_dimension(b"\xecV", 544, 1, at_column(by_hand.LABEL, 1, b"\xe4")(GOOD)),
     lettered(by_hand.TRANSDUCER, "µμ°ºΩ²³±ÄäÖöÜüßÆæÅåØø".encode(),

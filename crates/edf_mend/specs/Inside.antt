@@ -1,12 +1,9 @@
 -- Words of private contracts.
-use Rattle.std.specs.Prelude.{◌≡◌, ◌⊎◌, ℕ, ◌+◌, ◌<◌, List, ◌++◌, length, map, Option, Result, IfOk}
+use Rattle.std.specs.Prelude.{◌≡◌, ℕ, ◌+◌, ◌<◌, List, ◌++◌, length, map, Option, Result, IfOk}
 use Rattle.std.specs.Prelude.{MatchOption}
 use Rattle.std.specs.List.{flat_map}
 use Rattle.std.specs.Io.KnownBytes.{Consumes, IsAtEnd}
-use Rattle.edf_field.specs.Text.{IsPrintable}
 use Rattle.edf_header.specs.Header.{Layout, HeaderRecord, layout_of}
-use Rattle.edf_header.specs.Signal.{IsFirstBad}
-use Rattle.edf_header.specs.declared.fault.HeaderFault.TheVariants.{UnprintableSignals}
 use Rattle.edf_tal.specs.declared.place.Place.TheVariants.{First}
 use Rattle.edf_fragment.specs.Fragment.{DataRecord, blocks, ordinary_bytes, place_after}
 use Rattle.edf_fragment.specs.Sound.{IsValidRecord}
@@ -15,10 +12,7 @@ use Rattle.edf_mend.specs.Changes.{FieldChange}
 use Rattle.edf_mend.specs.Body.{BlocksReadAs, record_size, RecordReadsAs}
 use Rattle.edf_mend.specs.Header.{KeepsFields, KeepsHeader}
 use Rattle.edf_mend.specs.Mends.{ListsHeader}
-use Rattle.edf_mend.specs.Texts.{DimensionReadsAs}
-use Rattle.edf_fragment.specs.declared.fault.FragmentFault.TheVariants.{Header as BadHeader}
 use Rattle.edf_mend.specs.declared.fault.MendFault.{MendFault}
-use Rattle.edf_mend.specs.declared.fault.MendFault.TheVariants.{Memory, Refused}
 use Rattle.edf_mend.specs.declared.header.GoodFixed.{GoodFixed}
 use Rattle.edf_mend.specs.declared.opening.Opened.{Opened}
 use Rattle.edf_mend.specs.declared.reading.LenientFile.{LenientFile}
@@ -41,13 +35,6 @@ pub record OpensLeniently (w : Wanted) (input remaining : Option (List ℕ)) (o 
     pub layout : o.file.header ≡ layout_of h
     pub place : o.file.place ≡ First
     pub given : o.file.given ≡ 0
-
--- A dimension that begins at this byte of the file reads as nothing, and its first byte that is not
--- printable is named; or memory ran out.
-abbrev pub IsUnread : List ℕ → ℕ → MendFault → Type 0
-IsUnread text at fault = (fault ≡ Memory)
-    ⊎ ((bad : ℕ) × (fault ≡ Refused (BadHeader (UnprintableSignals (at + bad))))
-    × IsFirstBad IsPrintable text bad × ((new : List ℕ) → ¬ DimensionReadsAs text new))
 
 -- These are the samples of a data record, and the good form of its blocks.
 pub record IsGoodRecord (l : Layout) (nth : ℕ) (bytes : List ℕ) (good : GoodRecord) : Type 0 where

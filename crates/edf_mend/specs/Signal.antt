@@ -3,8 +3,8 @@ use Rattle.std.specs.Prelude.{◌≡◌, ◌≢◌, ◌⊎◌, ℕ, ◌+◌, ◌
 use Rattle.std.specs.Prelude.{length, drop, slice_index, Bool, true, false, if◌then◌else◌, filter}
 use Rattle.std.specs.Prelude.{codes, All, IsTrue, nat_eq}
 use Rattle.edf_field.specs.Number.{unsigned, digits, after_digits, IsNumber, IsPhysical, field}
-use Rattle.edf_mend.specs.Texts.{numeral, numeral_text, unfilled, spaced, fitted, spelling}
-use Rattle.edf_mend.specs.Texts.{DimensionReadsAs}
+use Rattle.edf_mend.specs.Texts.{numeral, numeral_text, unfilled, spaced, fitted, text_rows}
+use Rattle.edf_mend.specs.Texts.{dimension_rows, micro_as_utf8, spelled_by}
 use Rattle.std.specs.List.{starts_with}
 use Rattle.std.specs.Char.{is_ascii_lowercase}
 use Rattle.std.specs.Str.{str_to_ascii_lowercase}
@@ -71,21 +71,16 @@ abbrev pub KeepsNumber : List ℕ → List ℕ → Type 0
 KeepsNumber old new = (IsPhysical (numeral old) × (new ≡ numeral old))
     ⊎ ((¬ IsPhysical (numeral old)) × IsClear old × IsOneNumber old new)
 
--- The text stays, but for zeros that fill it, where it is printable; otherwise ASCII spells it, and
--- nothing of it is cut.
-abbrev pub KeepsLetters : List ℕ → List ℕ → Type 0
-KeepsLetters old new = (All IsPrintable (spaced old) × (new ≡ spaced old))
-    ⊎ ((¬ All IsPrintable (spaced old)) × (length (spelling (unfilled old)) ≤ length old)
-    × (new ≡ fitted (length old) (spelling (unfilled old))))
+-- The text stays, but for zeros that fill it, where it is printable; otherwise ASCII spells it by
+-- this table, and nothing of it is cut.
+abbrev pub KeepsLetters : List (ℕ × ℕ × List ℕ) → List ℕ → List ℕ → Type 0
+KeepsLetters rows old new = (All IsPrintable (spaced old) × (new ≡ spaced old))
+    ⊎ ((¬ All IsPrintable (spaced old)) × (length (spelled_by rows (unfilled old)) ≤ length old)
+    × (new ≡ fitted (length old) (spelled_by rows (unfilled old))))
 
 -- So does the field of a row that begins at this byte.
 abbrev pub KeepsText : ℕ → ℕ → List ℕ → List ℕ → Type 0
-KeepsText at width old new = KeepsLetters (field old at width) (field new at width)
-
--- A dimension is read, and nothing of it is cut.
-abbrev pub KeepsDimension : List ℕ → List ℕ → Type 0
-KeepsDimension old new = (text : List ℕ) × DimensionReadsAs (unfilled old) text
-    × (length text ≤ length old) × (new ≡ fitted (length old) text)
+KeepsText at width old new = KeepsLetters text_rows (field old at width) (field new at width)
 
 -- Nothing is measured: the physical limits are the digital ones, without a dimension.
 pub record IsUnmeasured (row : List ℕ) : Type 0 where
@@ -97,7 +92,7 @@ pub record IsUnmeasured (row : List ℕ) : Type 0 where
 abbrev pub KeepsLimits : List ℕ → List ℕ → List ℕ → List ℕ → Type 0
 KeepsLimits low high old new =
     (KeepsNumber low (physical_minimum_field new) × KeepsNumber high (physical_maximum_field new)
-    × KeepsDimension (field old 96 8) (field new 96 8))
+    × KeepsLetters dimension_rows (micro_as_utf8 (field old 96 8)) (field new 96 8))
     ⊎ (IsClear low × IsClear high × IsOneNumber low high × IsUnmeasured new)
 
 -- The line from digital to physical values stays: both ends of it, maybe in the other order.

@@ -1,10 +1,11 @@
 -- Texts of fields, as a lenient reading takes them, and what ASCII has in place of other letters.
 use Rattle.std.specs.Prelude.{ℕ, ◌-◌, ◌==◌, ◌||◌, List, [], ◌∷◌, ◌++◌, length, take, drop, codes}
-use Rattle.std.specs.Prelude.{slice_index_or, ◌≡◌, ◌≢◌, ◌⊎◌, ◌≤◌, All, ◌&&◌, nat_le, if◌then◌else◌}
-use Rattle.std.specs.List.{suffix_len, prefix_len, flat_map}
+use Rattle.std.specs.Prelude.{slice_index_or, ◌≡◌, ◌⊎◌, ◌≤◌, All, ◌&&◌, nat_le, if◌then◌else◌}
+use Rattle.std.specs.Prelude.{nat_eq}
+use Rattle.std.specs.List.{suffix_len, prefix_len, flat_map, starts_with}
 use Rattle.std.specs.Str.{chars, is_utf8}
 use Rattle.edf_time.specs.Civil.{IsVisible}
-use Rattle.edf_field.specs.Text.{IsPrintable, spaces, subfields}
+use Rattle.edf_field.specs.Text.{spaces, subfields}
 use Rattle.std.specs.Borrow.{Bor}
 
 -- Zeros and spaces at the end of a text fill its field.
@@ -65,11 +66,18 @@ text_rows = (0, 31, codes " ") ∷ (127, 127, codes " ") ∷ (160, 160, codes " 
     ∷ (253, 253, codes "y") ∷ (255, 255, codes "y") ∷ []
 
 -- In a dimension: the micro sign, the Greek letter, and æ, which the micro sign of DOS is in
--- Latin-1; degree signs; ohm signs; small 2 and 3.
+-- Latin-1; degree signs; ohm signs; small 2 and 3. A dimension decides the scale, so no other is
+-- guessed: for what it becomes there is no room.
 abbrev pub dimension_rows : List (ℕ × ℕ × List ℕ)
 dimension_rows = (181, 181, codes "u") ∷ (956, 956, codes "u") ∷ (230, 230, codes "u")
     ∷ (176, 176, codes "deg") ∷ (186, 186, codes "deg") ∷ (937, 937, codes "Ohm")
-    ∷ (8486, 8486, codes "Ohm") ∷ (178, 178, codes "2") ∷ (179, 179, codes "3") ∷ []
+    ∷ (8486, 8486, codes "Ohm") ∷ (178, 178, codes "2") ∷ (179, 179, codes "3")
+    ∷ (0, 1_114_111, codes "no reading") ∷ []
+
+-- A dimension may begin with the micro sign of Shift-JIS: two bytes, as that of UTF-8 has.
+abbrev pub micro_as_utf8 : List ℕ → List ℕ
+micro_as_utf8 text =
+    if starts_with nat_eq text (131 ∷ 202 ∷ []) then 194 ∷ (181 ∷ drop 2 text) else text
 
 -- A character becomes the text of the first row that has it; a question mark where none has.
 abbrev pub by_rows : List (ℕ × ℕ × List ℕ) → ℕ → List ℕ
@@ -80,24 +88,10 @@ by_rows (r ∷ rs) c = if nat_le r.0 c && nat_le c r.1 then r.2 else by_rows rs 
 abbrev pub letters : List (ℕ × ℕ × List ℕ) → ℕ → List ℕ
 letters rows c = if nat_le 32 c && nat_le c 126 then c ∷ [] else by_rows rows c
 
--- The characters of a text: those of its UTF-8 or, where it is none, each byte as Latin-1 has it.
-abbrev pub characters : List ℕ → List ℕ
-characters text = if is_utf8 text then chars text else text
-
--- ASCII spells the text so, in any length.
+-- ASCII spells the text so, in any length: the characters of its UTF-8 or, where it is none, each
+-- byte as Latin-1 has it.
 abbrev pub spelled_by : List (ℕ × ℕ × List ℕ) → List ℕ → List ℕ
-spelled_by rows text = flat_map (letters rows) (characters text)
+spelled_by rows text = flat_map (letters rows) (if is_utf8 text then chars text else text)
 
 abbrev pub spelling : List ℕ → List ℕ
 spelling text = spelled_by text_rows text
-
--- A character is printable, or a row of a dimension has it.
-abbrev pub IsKnown : ℕ → Type 0
-IsKnown c = IsPrintable c ⊎ (by_rows dimension_rows c ≢ codes "?")
-
--- A dimension decides the scale, so no character of it is guessed. It reads as this text where it is
--- printable; or printable behind the micro sign of Shift-JIS, two bytes; or by the rows.
-abbrev pub DimensionReadsAs : List ℕ → List ℕ → Type 0
-DimensionReadsAs text new = (All IsPrintable text × (new ≡ text))
-    ⊎ (((unit : List ℕ) × (text ≡ 131 ∷ 202 ∷ unit) × All IsPrintable unit × (new ≡ 117 ∷ unit))
-    ⊎ (All IsKnown (characters text) × (new ≡ spelled_by dimension_rows text)))

@@ -246,7 +246,7 @@ fn good_rows(alloc: Global, second: &[u8], n: usize, timed: bool) -> Result<Vec<
     let mut rows = Vec::new(alloc);
     for i in 0..n {
         let old = signal_row(second, n, i);
-        let row = good_signal(alloc, &old, i as u32 + 1, 256 + 96 * n + 8 * i)?;
+        let row = good_signal(alloc, &old, i as u32 + 1, (256 + 96 * n + 8 * i) as u32)?;
         // letters that ASCII lacks may have stood in the word
         if !timed && speaks_of_annotations(alloc, &row[0..16])? {
             return Err(MendFault::from(HeaderFault::Annotations));

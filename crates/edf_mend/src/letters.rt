@@ -1,20 +1,16 @@
 //! Letters that ASCII lacks: what it has in their place in texts, and in physical dimensions.
 
-ghost use Rattle.std.specs.Prelude.{◌≡◌, ◌++◌, ◌∷◌, ◌↔◌, IfOk, OnOk, IsTrue, All, MatchOption};
-ghost use Rattle.std.specs.Prelude.{ℕ, List, map};
-ghost use Rattle.std.specs.Str.{chars};
-ghost use Rattle.edf_field.specs.Text.{IsPrintable};
-ghost use Rattle.edf_mend.specs.Texts.{by_rows, characters, letters, letter_row, spelled_by};
-ghost use Rattle.edf_mend.specs.Texts.{spelling, IsKnown, DimensionReadsAs};
+ghost use Rattle.std.specs.Prelude.{◌≡◌, ◌++◌, IfOk, OnOk, map, if◌then◌else◌};
+ghost use Rattle.std.specs.Str.{chars, is_utf8};
+ghost use Rattle.edf_mend.specs.Texts.{by_rows, letters, letter_row, spelled_by, spelling};
 
-use crate::texts::{is_printable, push_part};
 use std::alloc::{AllocError, Global};
 use std::str;
 
 /// The characters from one code to another become a text, by the first row that has them. Control
 /// bytes and the no-break space; signs of units; letters of Latin-1, Ä Ö Ü ä ö ü ß Æ æ Å å Ø ø
 /// before the ranges in which they lie.
-const TEXT_ROWS: [(u32, u32, &[u8]); 42] = [
+pub(crate) const TEXT_ROWS: [(u32, u32, &[u8]); 42] = [
     (0, 31, b" "),
     (127, 127, b" "),
     (160, 160, b" "),
@@ -60,9 +56,10 @@ const TEXT_ROWS: [(u32, u32, &[u8]); 42] = [
 ];
 
 /// The same in a dimension: the micro sign, the Greek letter, and æ, which the micro sign of DOS is
-/// in Latin-1; degree signs; ohm signs; small 2 and 3. Byte 236 has no row, since it is a mu in Greek
-/// pages, and in Cyrillic ones the letter for milli.
-const DIMENSION_ROWS: [(u32, u32, &[u8]); 9] = [
+/// in Latin-1; degree signs; ohm signs; small 2 and 3. A dimension decides the scale, so no other is
+/// guessed: 236 is a mu in Greek pages, and milli in Cyrillic ones. For what it becomes there is no
+/// room.
+pub(crate) const DIMENSION_ROWS: [(u32, u32, &[u8]); 10] = [
     (181, 181, b"u"),
     (956, 956, b"u"),
     (230, 230, b"u"),
@@ -72,6 +69,7 @@ const DIMENSION_ROWS: [(u32, u32, &[u8]); 9] = [
     (8486, 8486, b"Ohm"),
     (178, 178, b"2"),
     (179, 179, b"3"),
+    (0, 1_114_111, b"no reading"),
 ];
 
 /// Returns what ASCII has in place of a character, by these rows.
@@ -121,7 +119,7 @@ fn codes_of_bytes(alloc: Global, text: &[u8]) -> Result<Vec<u32>, AllocError>
 /// Returns the codes of the characters of a text: those of its UTF-8 or, where it is none, its
 /// bytes.
 fn characters(alloc: Global, text: &[u8]) -> Result<Vec<u32>, AllocError>
-    ensures { IfOk result (λ r. r.items ≡ characters text.now) }
+    ensures { IfOk result (λ r. r.items ≡ (if is_utf8 text.now then chars text.now else text.now)) }
 {
     match str::from_utf8(text) {
         Ok(letters) => codes_of(alloc, letters),
@@ -130,7 +128,7 @@ fn characters(alloc: Global, text: &[u8]) -> Result<Vec<u32>, AllocError>
 }
 
 /// Returns a text as ASCII has it by these rows, in any length.
-fn spelled_by(
+pub(crate) fn spelled_by(
     alloc: Global,
     rows: &[(u32, u32, &'static [u8])],
     text: &[u8],
@@ -149,50 +147,4 @@ pub(crate) fn spelling(alloc: Global, text: &[u8]) -> Result<Vec<u8>, AllocError
     ensures { IfOk result (λ r. r.items ≡ spelling text.now) }
 {
     spelled_by(alloc, &TEXT_ROWS, text)
-}
-
-/// Is true where a character is printable, or a row of a dimension has it.
-fn is_known(code: u32) -> bool
-    ensures { IsTrue result ↔ IsKnown code }
-{
-    (32 <= code && code <= 126) || by_rows(&DIMENSION_ROWS, code) != b"?".as_slice()
-}
-
-/// Is true where each of these characters is known in a dimension.
-fn are_known(codes: &[u32]) -> bool
-    ensures { IsTrue result ↔ All IsKnown codes.now }
-{
-    codes.iter().all(|code| is_known(*code))
-}
-
-/// Returns what is printable behind the micro sign of Shift-JIS.
-fn behind_micro(text: &[u8]) -> Option<&[u8]>
-    ensures { MatchOption result
-        ((unit : List ℕ) → text.now ≡ 131 ∷ 202 ∷ unit → ¬ All IsPrintable unit)
-        (λ unit. (text.now ≡ 131 ∷ 202 ∷ unit.now) × All IsPrintable unit.now) }
-{
-    match text {
-        [131, 202, unit @ ..] if is_printable(unit) => Some(unit),
-        _ => None,
-    }
-}
-
-/// Returns a dimension as ASCII has it, in any length; `None` where a character is not known.
-pub(crate) fn dimension(alloc: Global, text: &[u8]) -> Result<Option<Vec<u8>>, AllocError>
-    ensures { IfOk result (λ found. MatchOption found
-        ((new : List ℕ) → ¬ DimensionReadsAs text.now new)
-        (λ new. DimensionReadsAs text.now new.items)) }
-{
-    if is_printable(text) {
-        return Ok(Some(Vec::from_slice(alloc, text)?));
-    }
-    if let Some(unit) = behind_micro(text) {
-        let mut new = Vec::new(alloc);
-        push_part(&mut new, b'u', unit)?;
-        return Ok(Some(new));
-    }
-    if !are_known(characters(alloc, text)?.as_slice()) {
-        return Ok(None);
-    }
-    Ok(Some(spelled_by(alloc, &DIMENSION_ROWS, text)?))
 }

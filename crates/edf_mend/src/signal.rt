@@ -1,66 +1,73 @@
 //! A signal of a file, and its good form: it is proposed, and then checked.
 
-ghost use Rattle.std.specs.Prelude.{◌≡◌, ◌+◌, ◌↔◌, ◌≤◌, length, IsTrue, IfOk, IfSome, codes};
-ghost use Rattle.std.specs.Prelude.{filter, All, MatchOption, MatchResult};
+ghost use Rattle.std.specs.Prelude.{◌≡◌, ◌+◌, ◌↔◌, ◌≤◌, length, map, IsTrue, IfOk, codes};
+ghost use Rattle.std.specs.Prelude.{filter, ℕ, List, MatchOption};
 ghost use Rattle.std.specs.Char.{is_ascii_lowercase};
 ghost use Rattle.std.specs.Str.{str_to_ascii_lowercase};
 ghost use Rattle.edf_mend.specs.Signal.{IsClear, IsOneNumber, KeepsLetters, IsUnmeasured};
 ghost use Rattle.edf_mend.specs.Signal.{KeepsLimits, KeepsLine, KeepsOrdinary, KeepsSignal};
-ghost use Rattle.edf_mend.specs.Signal.{has_word, KeepsDimension, SpeaksOfAnnotations};
+ghost use Rattle.edf_mend.specs.Signal.{has_word, SpeaksOfAnnotations};
 ghost use Rattle.edf_header.specs.Fields.{label_field};
-ghost use Rattle.edf_field.specs.Text.{IsPrintable};
-ghost use Rattle.edf_header.specs.Signal.{IsFirstBad, IsLabelled, has_label};
-ghost use Rattle.edf_mend.specs.Texts.{spaced, DimensionReadsAs};
-ghost use Rattle.edf_mend.specs.Inside.{IsUnread};
+ghost use Rattle.edf_header.specs.Signal.{IsLabelled, has_label};
+ghost use Rattle.edf_mend.specs.Texts.{spaced, letter_row, micro_as_utf8};
 
 use crate::fault::MendFault;
-use crate::letters::{dimension, spelling};
+use crate::letters::{DIMENSION_ROWS, TEXT_ROWS, spelled_by};
 use crate::number::{good_limit, is_clear, is_numeral, is_one_number, keeps_number, number_at};
 use crate::texts::{fitted_as, is_printable, put, spaced, unfilled};
 use edf_field::read_signed;
-use edf_fragment::FragmentFault;
 use edf_header::HeaderFault;
 use std::alloc::{AllocError, Global};
 
-/// Returns the good form of a text; `None` where it has no room in its field.
-fn good_text(alloc: Global, old: &[u8]) -> Result<Option<Vec<u8>>, AllocError>
-    ensures { IfOk result (λ found. IfSome found (λ r. KeepsLetters old.now r.items)) }
+/// Returns the good form of a text by these rows; `None` where it has no room in its field.
+fn good_text(
+    alloc: Global,
+    rows: &[(u32, u32, &'static [u8])],
+    old: &[u8],
+) -> Result<Option<Vec<u8>>, AllocError>
+    ensures { IfOk result (λ found. MatchOption found
+        ((new : List ℕ) → ¬ KeepsLetters (map letter_row rows.now) old.now new)
+        (λ r. KeepsLetters (map letter_row rows.now) old.now r.items)) }
 {
     let text = spaced(alloc, old)?;
     if is_printable(text.as_slice()) {
         return Ok(Some(text));
     }
-    let spelled = spelling(alloc, unfilled(old))?;
+    let spelled = spelled_by(alloc, rows, unfilled(old))?;
     if spelled.len() > old.len() {
         return Ok(None);
     }
     Ok(Some(fitted_as(alloc, old, spelled.as_slice())?))
 }
 
+/// Returns a dimension whose micro sign, where it begins with that of Shift-JIS, is that of UTF-8.
+fn micro_as_utf8(alloc: Global, field: &[u8]) -> Result<Vec<u8>, AllocError>
+    ensures { IfOk result (λ r. r.items ≡ micro_as_utf8 field.now) }
+{
+    if !field.starts_with(&[131, 202]) {
+        return Vec::from_slice(alloc, field);
+    }
+    let mut new = Vec::from_slice(alloc, &[194, 181])?;
+    new.extend_from_slice(&field[2..])?;
+    Ok(new)
+}
+
 // ---- the check
 
-/// Is true where a field of text is the good form of another.
-fn keeps_letters(alloc: Global, old: &[u8], new: &[u8]) -> Result<bool, AllocError>
-    ensures { IfOk result (λ ok. IsTrue ok → KeepsLetters old.now new.now) }
+/// Is true where a field of text is the good form of another by these rows.
+fn keeps_letters(
+    alloc: Global,
+    rows: &[(u32, u32, &'static [u8])],
+    old: &[u8],
+    new: &[u8],
+) -> Result<bool, AllocError>
+    ensures { IfOk result
+        (λ ok. IsTrue ok → KeepsLetters (map letter_row rows.now) old.now new.now) }
 {
-    match good_text(alloc, old)? {
+    match good_text(alloc, rows, old)? {
         Some(text) => Ok(new == text.as_slice()),
         None => Ok(false),
     }
-}
-
-/// Is true where a dimension is the good form of another.
-fn keeps_dimension(alloc: Global, old: &[u8], new: &[u8]) -> Result<bool, AllocError>
-    ensures { IfOk result (λ ok. IsTrue ok → KeepsDimension old.now new.now) }
-{
-    let Some(text) = dimension(alloc, unfilled(old))? else {
-        return Ok(false);
-    };
-    if text.len() > old.len() {
-        return Ok(false);
-    }
-    let field = fitted_as(alloc, old, text.as_slice())?;
-    Ok(new == field.as_slice())
 }
 
 /// Is true where nothing is measured: both limits are the digital ones, without a dimension.
@@ -108,7 +115,8 @@ fn keeps_limits(
     if !keeps_number(alloc, high, &new[112..120])? {
         return Ok(false);
     }
-    Ok(keeps_dimension(alloc, &old[96..104], &new[96..104])?)
+    let dimension = micro_as_utf8(alloc, &old[96..104])?;
+    Ok(keeps_letters(alloc, &DIMENSION_ROWS, dimension.as_slice(), &new[96..104])?)
 }
 
 /// Is true where the line from digital to physical values stays, its ends in their order.
@@ -151,16 +159,16 @@ fn keeps_line(alloc: Global, old: &[u8; 256], new: &[u8; 256]) -> Result<bool, A
 fn keeps_ordinary(alloc: Global, old: &[u8; 256], new: &[u8; 256]) -> Result<bool, AllocError>
     ensures { IfOk result (λ ok. IsTrue ok → KeepsOrdinary old.now new.now) }
 {
-    if !keeps_letters(alloc, &old[0..16], &new[0..16])? {
+    if !keeps_letters(alloc, &TEXT_ROWS, &old[0..16], &new[0..16])? {
         return Ok(false);
     }
-    if !keeps_letters(alloc, &old[16..96], &new[16..96])? {
+    if !keeps_letters(alloc, &TEXT_ROWS, &old[16..96], &new[16..96])? {
         return Ok(false);
     }
-    if !keeps_letters(alloc, &old[136..216], &new[136..216])? {
+    if !keeps_letters(alloc, &TEXT_ROWS, &old[136..216], &new[136..216])? {
         return Ok(false);
     }
-    if !keeps_letters(alloc, &old[224..256], &new[224..256])? {
+    if !keeps_letters(alloc, &TEXT_ROWS, &old[224..256], &new[224..256])? {
         return Ok(false);
     }
     Ok(keeps_line(alloc, old, new)?)
@@ -287,39 +295,14 @@ fn limit_of(alloc: Global, old: &[u8; 8], nth: u32) -> Result<[u8; 8], MendFault
     }
 }
 
-/// Returns the index of the first byte that is not printable, if there is one.
-fn first_unprintable(text: &[u8]) -> Option<usize>
-    ensures { MatchOption result (All IsPrintable text.now) (IsFirstBad IsPrintable text.now) }
-{
-    text.iter().position(|b| !(32..=126).contains(b))
-}
-
-/// Returns what a dimension that begins at this byte of the file reads as.
-fn read_dimension(alloc: Global, text: &[u8], at: usize) -> Result<Vec<u8>, MendFault>
-    requires { at + length text.now ≤ 100_000 }
-    ensures { MatchResult result (λ new. DimensionReadsAs text.now new.items)
-        (IsUnread text.now at) }
-{
-    match (dimension(alloc, text), first_unprintable(text)) {
-        (Ok(Some(new)), _) => Ok(new),
-        (Ok(None), Some(bad)) => {
-            let fault = HeaderFault::UnprintableSignals { offset: at + bad };
-            Err(MendFault::Refused(FragmentFault::Header(fault)))
-        }
-        _ => Err(MendFault::Memory),
-    }
-}
-
 /// Writes what a sample means: the limits and the dimension, which begins at this byte of the file.
 fn put_line(
     alloc: Global,
     row: &mut [u8; 256],
     old: &[u8; 256],
     nth: u32,
-    at: usize,
-) -> Result<(), MendFault>
-    requires { at ≤ 70_000 }
-{
+    at: u32,
+) -> Result<(), MendFault> {
     let ((from, to), (low, high)) = limits_of(old, nth)?;
     put(row, 120, 8, &from);
     put(row, 128, 8, &to);
@@ -328,11 +311,13 @@ fn put_line(
         put(row, 112, 8, &to);
         return Ok(());
     }
-    let unit = read_dimension(alloc, unfilled(&old[96..104]), at)?;
-    if unit.len() > 8 {
-        return Err(MendFault::Text { signal: nth });
-    }
-    put(row, 96, 8, unit.as_slice());
+    let field = micro_as_utf8(alloc, &old[96..104])?;
+    let Some(dimension) = good_text(alloc, &DIMENSION_ROWS, field.as_slice())? else {
+        let bad = field.iter().position(|b| !(32..=126).contains(b)).unwrap_or(0);
+        let offset = (at as usize).saturating_add(bad);
+        return Err(MendFault::from(HeaderFault::UnprintableSignals { offset }));
+    };
+    put(row, 96, 8, dimension.as_slice());
     put(row, 104, 8, &limit_of(alloc, &low, nth)?);
     put(row, 112, 8, &limit_of(alloc, &high, nth)?);
     Ok(())
@@ -349,7 +334,7 @@ fn put_text(
 ) -> Result<(), MendFault>
     requires { at + width ≤ 256 }
 {
-    match good_text(alloc, &old[at..at + width])? {
+    match good_text(alloc, &TEXT_ROWS, &old[at..at + width])? {
         Some(text) => {
             put(row, at, width, text.as_slice());
             Ok(())
@@ -358,16 +343,13 @@ fn put_text(
     }
 }
 
-/// Returns the good form of a signal whose dimension begins at this byte of the file, as it is
-/// proposed.
+/// Returns the good form of a signal whose dimension begins at this byte, as it is proposed.
 pub(crate) fn good_signal(
     alloc: Global,
     old: &[u8; 256],
     nth: u32,
-    at: usize,
-) -> Result<[u8; 256], MendFault>
-    requires { at ≤ 70_000 }
-{
+    at: u32,
+) -> Result<[u8; 256], MendFault> {
     let samples = number_at(&old[216..224]);
     if was_labelled(alloc, old)? {
         return Ok(annotations_row(&samples));
