@@ -313,7 +313,10 @@ fn put_line(
     }
     let field = micro_as_utf8(alloc, &old[96..104])?;
     let Some(dimension) = good_text(alloc, &DIMENSION_ROWS, field.as_slice())? else {
-        let bad = field.iter().position(|b| !(32..=126).contains(b)).unwrap_or(0);
+        let bad = field
+            .iter()
+            .position(|b| !(32..=126).contains(b))
+            .unwrap_or(0);
         let offset = (at as usize).saturating_add(bad);
         return Err(MendFault::from(HeaderFault::UnprintableSignals { offset }));
     };
