@@ -13,7 +13,8 @@ letters and a foreign one, sees why, mends, adds the card, and saves all there i
 by onset; a job that is cancelled; files that change later; files that are dropped; files that
 contradict each other, of which one is taken first or out; faulty fields, recordings of the same
 codes, and work that is not saved; twelve pieces of plain EDF, a torn piece beside its card, two
-nights without a code, files that are no recordings, a card that is pulled out, a file that waits.
+nights without a code, files that are no recordings, a card that is pulled out, a file that waits;
+and what may be said only where it is so: what is missing of a card that was cut, and its like.
 Each state is looked at on four screens, light and dark, for pale texts and what has no room; so are
 paper, long names, the picture's letters and a screen's own colours. `--screenshots` keeps them.
 
@@ -49,8 +50,8 @@ from dataclasses import dataclass, field
 from pathlib import Path
 from typing import Any
 
-from checks.lib import (appearance, arguments, measure, modules, morning, night, page_files,
-                        printed, second_thoughts, sends, technician)
+from checks.lib import (appearance, arguments, claims, measure, modules, morning, night,
+                        page_files, printed, second_thoughts, sends, technician)
 from checks.lib.checks import Lost, compare, end
 from checks.lib.chromium import Chromium
 from checks.lib.firefox import Firefox
@@ -592,6 +593,7 @@ def in_browser(bench: Bench, given: Any, folder: Path, native: Native, expected:
     technician.all_of_it(bench, hands, folder, native, big)
     second_thoughts.all_of_it(bench, hands, folder, native)
     morning.all_of_it(bench, hands, folder, native)
+    claims.all_of_it(bench, hands, folder, native)
     appearance.all_of_it(bench, hands, folder, native)
     lists(bench, expected)
     programs(bench, folder, native, expected["files of stories"][0])

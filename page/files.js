@@ -12,7 +12,7 @@ async function within(entry) {
   for (;;) {
     const some = await new Promise((done, failed) => reader.readEntries(done, failed));
     if (some.length === 0) return (await Promise.all(found.sort(byName).map(within))).flat();
-    found.push(...some);
+    some.forEach((it) => found.push(it));
   }
 }
 

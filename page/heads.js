@@ -2,7 +2,7 @@
 
 // The fields there: their first byte, and that behind the last.
 const FIELDS = { patient: [8, 88], recording: [88, 168], startdate: [168, 176],
-  starttime: [176, 184], form: [192, 197], duration: [244, 252] };
+  starttime: [176, 184], form: [192, 197], count: [236, 244], duration: [244, 252] };
 // Those that a refusal is of, and what they are called.
 const OF_REFUSALS = { E4: ["patient"], E5: ["recording"], E6: ["startdate", "recording"],
   E7: ["starttime"], E8: ["startdate", "recording"] };
@@ -32,6 +32,20 @@ const field = (head, name) => readable(head.slice(...FIELDS[name])).trimEnd();
 const naming = (head, name) => field(head, name).replace(/^Startdate \d\S* /, "");
 const NAMING = ["patient", "recording", "duration"];
 const isAlike = (one, { head }) => NAMING.every((it) => naming(one.head, it) === naming(head, it));
+// Whether a file is of a recording's patient: by the code, or without one by all that names it.
+const isOfPatient = (file, it) => file.night === it.night && (it.patient === "X"
+  ? isAlike(file, it) : field(file.head, "patient").split(" ")[0] === it.patient);
+
+// How many data records a file counts, if it does; and how many seconds so many of them last.
+const countOf = ({ head }) => Number(/^\d+$/.exec(field(head, "count"))?.[0] ?? 0);
+const secondsOf = ({ head }, count) => String(Number((field(head, "duration") * count).toFixed(6)));
+// How long files should be by the data records that were due as they came, if fewer are there.
+const shortage = (files) => files.filter((it) => it.due > countOf(it)).map((it) =>
+  `${it.name} should last ${lasting(secondsOf(it, it.due))}; ` +
+  `${lasting(secondsOf(it, countOf(it)))} are there.`).join(" ");
+// When a file ends that is used, in milliseconds. Of EDF+D nobody knows.
+const endOf = (it) => field(it.head, "form") === "EDF+D" ? NaN
+  : Date.parse(`${startOf(it)}Z`) + 1000 * secondsOf(it, it.fresh + it.known);
 
 // A file that `edfruns fill` made is no recording, but a copy for viewers.
 const isFilled = ({ head }) => field(head, "recording").endsWith(" filled");

@@ -44,7 +44,7 @@ async function areSame(one, other, at) {
 }
 
 // Which data records the recordings have of files that were cut, by what is whole of each, and of
-// the first few that contradict. A cut one of which they have all is torn, and nothing is missing.
+// the first few that contradict. Of EDF+C a cut one is torn where they have all that it counts.
 const COUNTED = ["out.edf", "", "", "", "", "", ""], MOST_COMPARED = 4;
 async function compareFiles(files, recordings, sorts) {
   const cut = files.filter(({ number, isTorn }) => number === "E21" && !isTorn);
@@ -56,12 +56,17 @@ async function compareFiles(files, recordings, sorts) {
     isRenamed(whole[nth].out) ? null : whole[nth].made[0]?.blob;
   const pairs = [...cut, ...some].flatMap((of, nth) => recordings.filter((it) =>
     it.night === of.night && isAlike(of, it)).map((it) => ({ of, name: of.name, first: it.file,
-    blob: nth < cut.length ? blobOf(nth) : of.blob }))).filter(({ blob }) => blob);
+    runs: it.runs, blob: nth < cut.length ? blobOf(nth) : of.blob }))).filter((it) => it.blob);
   const told = await done("compare", pairs);
-  pairs.forEach(({ of }, nth) => of.stretches.push(...linesOf(told[nth].out).map((line) =>
-    ({ word: line.split(" ")[0], ...valuesIn(line, "records", "from", "to") }))));
-  cut.forEach((it) => { it.isTorn = it.stretches.length > 0 &&
-    it.stretches.every(({ word }) => ["known", "lacking"].includes(word)); });
+  pairs.forEach(({ of }, nth) => linesOf(told[nth].out).forEach((line) => of.stretches.push(
+    { word: line.split(" ")[0], ...valuesIn(line, "records", "from", "to") })));
+  cut.forEach((it) => {
+    const from = it.stretches.find(({ word }) => word === "known")?.from, count = countOf(it);
+    it.isTorn = count > 0 && field(it.head, "form") === "EDF+C" &&
+      it.stretches.every(({ word }) => ["known", "lacking"].includes(word)) &&
+      pairs.some(({ of, runs }) => of === it && stretchesOf(runs.text).some((run) =>
+        run.from <= from && after(from, secondsOf(it, count)) <= run.to));
+  });
 }
 
 // Takes files to those that are here but for some that go, or all anew, in place of these.
@@ -82,8 +87,8 @@ async function takeAll(files, { isAnew = false, gone = [], isSorted = now.isSort
       : { recordings: here, outside: [], memory: 0 };
     memories.push(done.memory);
     some.forEach((it, nth) => read.set(it, done.lines[nth]));
-    recordings.push(...done.recordings);
-    outside.push(...done.outside);
+    done.recordings.forEach((it) => recordings.push(it));
+    done.outside.forEach((line) => outside.push(line));
   }
   files.forEach((it) => Object.assign(it, { isTorn: false, number: "filled" }, read.get(it)));
   await compareFiles(all, recordings, isSorted).catch(() => {});
@@ -128,7 +133,7 @@ function showFault(files, how, { message, file = null }) {
 // New files come, but for hidden ones of a folder, such as .DS_Store.
 function add(blobs) {
   if (isBusy) {
-    waiting.push(...blobs);
+    blobs.forEach((it) => waiting.push(it));
     return say(`${several(waiting.length, "file")} will be added when this is done.`);
   }
   const files = blobs.map((blob) => ({ blob, own: blob.name,

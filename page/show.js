@@ -29,7 +29,10 @@ function causeOf({ number, place, head }) {
   if (!field(head, "form").startsWith("EDF+") && ["E4", "E5", "E9"].includes(number)) {
     return wordsAt("cause-plain");
   }
-  return wordsAt(`cause-${number}`) ?? sentence(REFUSALS[number].what);
+  const text = [number, field(head, "startdate"), field(head, "duration"),
+    dayOf(startOf({ head })).toUpperCase(), field(head, "recording").toUpperCase()].join("|");
+  const said = inWords(text, "spellings");
+  return said !== text ? said : wordsAt(`cause-${number}`) ?? sentence(REFUSALS[number].what);
 }
 
 const outOf = (file) => button("Remove", new DocumentFragment(), () => takeOut([file]), file.name);
@@ -48,29 +51,37 @@ function showDetails(box, files) {
 function showCompared(box, file) {
   const each = file.stretches.filter(({ word }) => word !== "lacking");
   const of = (...words) => each.filter(({ word }) => words.includes(word)), fresh = of("new");
-  const lasts = (some) => lasting(String(Number((field(file.head, "duration") *
-    some.reduce((sum, { records }) => sum + Number(records), 0)).toFixed(6))));
+  const lasts = (all) => lasting(secondsOf(file, all.reduce((sum, it) => sum + +it.records, 0)));
   if (each.length === 0) return;
-  made("p", `${lasts(of("differs", "overlaps"))} of ${file.name} differs from what is used. ` +
-    (fresh.length > 0 ? `Another ${lasts(fresh)} is in it alone.` : "All else in it is used."), box);
+  const bad = of("differs", "overlaps"), more = fresh.length > 0
+    ? `Another ${lasts(fresh)} is in it alone.` : "All else in it is used.";
+  made("p", bad.length === each.length ? `All of ${file.name} differs: another person, or ` +
+    `another recorder?` : `${lasts(bad)} of ${file.name} differs from what is used. ${more}`, box);
   if (fresh.length > 0) button(`Add the missing ${lasts(fresh)}`, buttonsIn(box),
     () => takeCuts(file, fresh), file.name);
   table(fold("From when to when", box), "What is here of this file", ["From", "To", "What"], each,
     (it) => [when(it.from), when(it.to), wordsAt(`has-${it.word}`)]);
 }
 
+// Which files may go out where one is used first that contradicts them, by what their heads say.
+const rivalsOf = (file) => now.files.filter((it) => !it.number && it.night === file.night &&
+  isAlike(it, file) && file.stretches.some(({ word, from, to }) => /differs|overlaps/.test(word) &&
+    startOf(it) < to.slice(0, 19) && !(endOf(it) <= Date.parse(`${from}Z`))));
+
 // Refused files of one cause, with what can be done for all of them at once.
-function showGroup(place, cause, files) {
-  const [first] = files, isOne = files.length === 1;
+function showGroup(place, files) {
+  const [first] = files, isOne = files.length === 1, cause = causeOf(first);
   const [box, title] = part("section", place, "h4",
     `✕ ${isOne ? first.name : several(files.length, "file")}`);
-  made("p", cause, box);
+  made("p", isOne ? cause : cause.replace(/( written|, not) (?=\d)/g, "$1 like "), box);
   const buttons = buttonsIn(box), of = isOne ? first.name : title;
   if (REFUSALS[first.number].mends && kindOf(first.head) === null) {
     offerMending(buttons, box, files, of);
   }
   const contradicts = /^E3[01]/.test(first.number);
   if (contradicts) hint(wordsAt("first-stays"), box);
+  const rivals = contradicts && isOne ? rivalsOf(first) : [];
+  if (rivals.length > 0) made("p", `${named(rivals)} ${wordsAt("goes-out")}`, box);
   if (contradicts && isOne) button("Use this file first", buttons, () => takeFirst(first), of);
   if (first.number === "E31" && !now.isSorted) {
     button("Sort all annotations by their times", buttons, () => sortAll(true));
@@ -83,9 +94,10 @@ function showGroup(place, cause, files) {
 
 function showRefused(box, refused) {
   const groups = new Map();
-  refused.forEach((it) => groups.set(causeOf(it), [...groups.get(causeOf(it)) ?? [], it]));
+  const likeOf = (it) => causeOf(it).replace(/\d/g, "0");
+  refused.forEach((it) => groups.set(likeOf(it), [...groups.get(likeOf(it)) ?? [], it]));
   const [place] = part("section", box, "h3", "Files that are not used");
-  groups.forEach((files, cause) => showGroup(place, cause, files));
+  groups.forEach((files) => showGroup(place, files));
 }
 
 // Files that are no trouble: torn copies, and such as are no recordings.
@@ -129,7 +141,7 @@ function show() {
   mark(refused, "✕ # not used.", "bad");
   if (taken.length + refused.length === 0) head.append("There is no recording in these files.");
   box.append(Object.assign(head, { tabIndex: -1 }));
-  recordings.forEach((it) => showRecording(box, it, refused));
+  recordings.forEach((it) => showRecording(box, it, refused.filter((one) => isOfPatient(one, it))));
   if (refused.length > 0) showRefused(box, refused);
   showAside(box, torn, `${several(torn.length, "torn file")}: nothing is missing because of that`,
     () => "a torn copy", false);

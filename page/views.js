@@ -26,7 +26,7 @@ function differenceOf(recording) {
 // What there is of it, in a sentence.
 function sentenceOf(stretches, gaps) {
   const times = span(stretches[0].from, stretches.at(-1).to), number = gaps.length;
-  const most = Math.max(...gaps.map(({ gap }) => gap)), longest = gaps.find((it) => it.gap == most);
+  const longest = gaps.reduce((one, it) => it.gap - one.gap > 0 ? it : one, { gap: "0" });
   const how = number === 0 ? `No gap ${times}` : `Recorded ${times} with ` +
     `${several(number, "gap")}${number === 1 ? "" : ", the longest"} of ${lasting(longest.gap)}`;
   return `${how}. These files can't show whether the recorder also ran before or after.`;
@@ -35,7 +35,7 @@ function sentenceOf(stretches, gaps) {
 // Files that may be of two nights or two people: a gap of more than six hours, or the longest one
 // where nobody has a code, has some of the files on each side.
 function showDoubt(card, recording, own, gaps) {
-  const isBare = recording.patient === "X", number = Math.max(...now.files.map((it) => it.night));
+  const isBare = recording.patient === "X";
   const [longest] = gaps.filter(({ gap }) => isBare || gap > 6 * 3600)
     .sort((one, other) => other.gap - one.gap);
   const [before, later] = [false, true].map((is) =>
@@ -46,7 +46,7 @@ function showDoubt(card, recording, own, gaps) {
   made("p", `Is this one night of one person? Between ${named(before)} and ${named(later)} is a ` +
     `gap of ${lasting(longest.gap)}${more}.`, box);
   const buttons = buttonsIn(box);
-  button("Separate into two recordings", buttons, () => takeApart(later, number + 1));
+  button("Separate into two recordings", buttons, () => takeApart(later, Date.now()));
   button("Keep together", buttons, () => {
     own.forEach((it) => { it.isOne = true; });
     show().focus();
@@ -104,26 +104,23 @@ const describedBy = (picture) => new DOMParser().parseFromString(
   /<desc[^]*?<\/desc>/.exec(picture)?.[0] ?? "<desc/>", "text/xml").documentElement.textContent;
 
 function showRecording(box, recording, refused) {
-  const [card] = part("article", box, "h3", titleOf(recording));
+  const [card] = part("article", box, "h3", titleOf(recording)), other = differenceOf(recording);
   const stretches = stretchesOf(recording.runs.text), gaps = gapsIn(stretches);
   const picture = new Blob([recording.picture], { type: "image/svg+xml" });
   const own = now.files.filter((it) =>
     !it.number && it.night === recording.night && isAlike(it, recording));
   const isWhole = ({ fresh, known }) => fresh + known === Number(recording.records);
-  const copies = own.filter((it) => it.fresh === 0 || isWhole(it)), other = differenceOf(recording);
   const apart = now.recordings.find((it) => it.night < recording.night && isAlike(it, recording));
   if (other) made("p", other, card);
   if (apart) button("Put them together again", buttonsIn(card), () => takeApart(own, apart.night));
   if (!own.some(isWhole)) showDoubt(card, recording, own, gaps);
   made("p", sentenceOf(stretches, gaps), card, { className: "sentence" });
+  if (shortage(own)) made("p", shortage(own), card, { className: "bad" });
   made("img", null, made("div", null, card, { className: "picture" }), { src: urlOf(picture),
     alt: `Picture of the recording. ${describedBy(recording.picture)}` });
   const buttons = buttonsIn(card);
   offerExact(buttons, card, recording, gaps.length === 0);
   if (refused.length > 0) made("p", `Without ${named(refused)}: see below.`, card);
-  if (own.length > 1 && copies.length > 0) {
-    made("p", `Everything on ${named(copies)} is in this night.`, card);
-  }
   if (gaps.length > 0) {
     table(fold(`${several(gaps.length, "gap")}: from, to and how long`, card), "What is missing",
       ["From", "To", "How long"], gaps, (it) => [when(it.from), when(it.to), lasting(it.gap)]);

@@ -71,8 +71,7 @@ def torn(it: Technician) -> None:
         ("part1.edf", (OXIMETER / "part1.edf").read_bytes()), ("torn.edf", part[:10_000])]))
     it.says("✕ torn.edf It was cut.")
     it.chooses("Add files", [it.made("card.edf", (OXIMETER / "card.edf").read_bytes())])
-    it.says("✓ 2 files in 1 recording.", "1 torn file: nothing is missing because of that",
-            "Everything on card.edf is in this night.")
+    it.says("✓ 2 files in 1 recording.", "1 torn file: nothing is missing because of that")
     it.same("no alarm", "✕" in it.bench.words(), False)
     it.looks("a torn piece beside its card")
     it.unfold("1 torn file: nothing is missing because of that")

@@ -56,8 +56,7 @@ def contradictions(it: Technician) -> None:
     it.same("it is first", it.press("Use this file first: card.edf"), "done")
     it.paths = [card, piece_, faulty]
     it.gives("the card first")
-    it.says("✓ 2 files in 1 recording. ✕ 1 file not used.",
-            "Everything on card.edf and piece.edf is in this night.")
+    it.says("✓ 2 files in 1 recording. ✕ 1 file not used.")
     it.looks("the card first")
     takes_out_at_once(it, faulty)
     it.chooses("Add files", [late])

@@ -213,6 +213,16 @@ class Technician:
         ledger = self.native.run(self.native.edfmend, folder, "in.edf", name, *words)
         return ledger, (folder / name).read_bytes()
 
+    def saves_mended(self, name: str, ledger: bytes, mended: str) -> None:
+        """A mended file of one run is saved as EDF+C, as edfruns splits it, and its changes say so."""
+        folder = self.folder / "mend"
+        self.native.run(self.native.edfruns, folder, "split", mended, name)
+        [path] = folder.glob(f"{name}-[0-9]*")
+        self.same(f"{name}: EDF+C", path.read_bytes()[192:197], b"EDF+C")
+        self.saves("Save the list of changes", f"{name}-changes.txt",
+                   f"{name}.edf\n".encode() + ledger.replace(b'new="EDF+D"', b'new="EDF+C"'))
+        self.saves("Save the mended file", f"{name}-mended.edf", path.read_bytes())
+
     def made(self, name: str, data: bytes) -> Path:
         return written(self.folder / f"made-{len(list(self.folder.iterdir()))}", [(name, data)])[0]
 
@@ -242,8 +252,7 @@ def night(it: Technician) -> None:
     mends_cut(it, cut)
     mends_names(it)
     it.chooses("Add files", [it.made("card.edf", (OXIMETER / "card.edf").read_bytes())])
-    it.says("✓ 7 files in 2 recordings.",
-            "Everything on part2.edf and card.edf is in this night.")
+    it.says("✓ 7 files in 2 recordings.")
     it.looks("with the card")
 
 
@@ -252,8 +261,7 @@ def mends_cut(it: Technician, cut: bytes) -> None:
     it.same("mending is looked at", it.press("Mend it: cut.edf", key=" "), "done")
     ledger, front = it.mend("front.edf", cut)
     it.says(JOINS)
-    it.saves("Save the list of changes", "cut-changes.txt", b"cut.edf\n" + ledger)
-    it.saves("Save the mended file", "cut-mended.edf", front)
+    it.saves_mended("cut", ledger, "front.edf")
     it.looks("mending")
     it.paths = [*it.paths[:2], *it.paths[3:], it.made("cut.edf (mended)", front)]
     it.same("it is taken", it.press("Use it"), "done")
@@ -271,8 +279,7 @@ def mends_names(it: Technician) -> None:
     it.answers(CODE, "S-9", before="S 1")
     ledger, mended = it.mend("new.edf", names_file(), "--patient", "S-9")
     it.says("names.edf S-9, Mueller Hans 23:10 on 2 Mar 2002", IS_OWN)
-    it.saves("Save the list of changes", "names-changes.txt", b"names.edf\n" + ledger)
-    it.saves("Save the mended file", "names-mended.edf", mended)
+    it.saves_mended("names", ledger, "new.edf")
     it.paths = [*it.paths[:3], *it.paths[4:], it.made("names.edf (mended)", mended)]
     it.press("Use it")
     it.gives("with both mended files")
