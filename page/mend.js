@@ -1,5 +1,4 @@
-// Mending refused files of one cause, all at once: what would change is shown before any is taken,
-// with the fields of page.html for what edfmend asks.
+// Mending refused files of one cause at once, by what edfmend would change, and what it asks.
 
 const inWords = (line, id = "faults") =>
   pairsIn(id).reduce((text, [is, said]) => text.replace(is, said), line);
@@ -29,6 +28,7 @@ async function showMended(box, title, good) {
   const all = several(good.length, "mended file"), base = (own) => own.replace(/\.edf$/i, "");
   await alone(() => tryAll(good).catch(() => {}));
   const ledger = good.map(({ name, out, saved }) => `${name}\n${out.replace(IN, "it")
+    .replace(saved ? /^reserved .*"EDF\+C" new="EDF\+D"\n/m : "", "")
     .replace(/^(reserved .*EDF\+)D"$/m, saved ? '$1C"' : "$&")}`).join("");
   table(box, `${all}; samples stay as they are`, ["File", "Patient", "Starts"], good,
     (it) => [it.name, personIn(it), when(startOf(it))]);

@@ -219,6 +219,7 @@ class Technician:
         self.native.run(self.native.edfruns, folder, "split", mended, name)
         [path] = folder.glob(f"{name}-[0-9]*")
         self.same(f"{name}: EDF+C", path.read_bytes()[192:197], b"EDF+C")
+        ledger = ledger.replace(b'reserved at=192 old="EDF+C" new="EDF+D"\n', b"")
         self.saves("Save the list of changes", f"{name}-changes.txt",
                    f"{name}.edf\n".encode() + ledger.replace(b'new="EDF+D"', b'new="EDF+C"'))
         self.saves("Save the mended file", f"{name}-mended.edf", path.read_bytes())
