@@ -31,21 +31,9 @@ impl Write for Ends<'_> {
     }
 }
 
-/// Where the writes of the large file end: its header; the first data record's samples, which are
-/// longer than the buffer, then as much of its block as the buffer holds in pieces of 4,096 zeros,
-/// and the rest; the same of the second, whose block begins with 55,010 bytes; the third's samples
-/// and its block, which both are longer than the buffer.
-const ENDS: &[usize] = &[
-    768,
-    133_768,
-    195_213,
-    199_770,
-    332_770,
-    395_972,
-    398_772,
-    531_772,
-    LARGE_BYTES,
-];
+/// Where the writes of the large file end. Its header and a data record of 199,002 bytes fit into
+/// the buffer, and the next one's samples do not, so that each write has one data record.
+const ENDS: &[usize] = &[199_770, 398_772, LARGE_BYTES];
 
 /// An export to a writer that takes all, and whether its writes ended just there.
 fn whole(alloc: Global) -> Option<(Sent, bool)> {
@@ -64,7 +52,7 @@ fn whole(alloc: Global) -> Option<(Sent, bool)> {
 }
 
 #[test]
-fn a_file_longer_than_the_buffer_goes_out_whole_in_nine_writes(rt: HostRuntime) {
+fn a_file_longer_than_the_buffer_goes_out_whole_in_three_writes(rt: HostRuntime) {
     assert_eq!(rt;
         whole(rt.alloc()),
         Some(((Ok(LARGE_BYTES as u64), true), true))

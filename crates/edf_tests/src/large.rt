@@ -1,5 +1,5 @@
-//! A recording whose data records are longer than the buffer of an export: three of 199,002 bytes
-//! each. They have so many samples that each is a page of its own: a walk reads none ahead but the
+//! A recording of which the buffer of an export holds one data record: three of 199,002 bytes each.
+//! They have so many samples that each is a page of its own: a walk reads none ahead but the
 //! one that it gives next.
 
 use crate::held::{CAP, empty_store, taken};
