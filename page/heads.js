@@ -42,7 +42,7 @@ const secondsOf = ({ head }, count) => String(Number((field(head, "duration") * 
 // How long files should be by the data records that were due as they came, if fewer are there.
 const shortage = (files) => files.filter((it) => it.due > countOf(it)).map((it) =>
   `${it.name} should last ${lasting(secondsOf(it, it.due))}; ` +
-  `${lasting(secondsOf(it, countOf(it)))} are there.`).join(" ");
+  `${lasting(secondsOf(it, countOf(it)))} are in it.`).join(" ");
 // When a file ends that is used, in milliseconds. Of EDF+D nobody knows.
 const endOf = (it) => field(it.head, "form") === "EDF+D" ? NaN
   : Date.parse(`${startOf(it)}Z`) + 1000 * secondsOf(it, it.fresh + it.known);

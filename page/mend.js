@@ -16,7 +16,7 @@ async function tryAll(good) {
   const [{ night }] = good, here = now.recordings.filter((it) => it.night === night);
   for (const it of good) it.head = await headOf(it);
   const some = good.filter((it) => it.night === night && here.some((one) => isAlike(it, one)));
-  good.forEach((it) => { it.says = [!it.saved && "gapped",
+  good.forEach((it) => { it.says = [it.saved === null && "gapped",
     now.recordings.length > 0 && isRenamed(it.out) && !some.includes(it) && "own"]; });
   const done = some.length > 0 && await takeNight(night, some, here, now.isSorted);
   some.forEach(({ says }, nth) => says.push(/^E3[01]/.test(done.lines[nth].number) ? "contradicts"

@@ -15,8 +15,8 @@ from .technician import JOINS, TEXT, Technician
 GAPS = 140_000
 GAPPED = ("It has gaps, so it is saved as EDF+D, which EDFbrowser doesn't open. For a viewer use it "
           "here, then press “Save for viewing”.")
-CONTRADICTS = ("It doesn't join its night: at the same time a file before it has other samples or "
-               "annotations, and that one stays in use.")
+CONTRADICTS = ("It doesn't join its night: it contradicts a file that was added before it, and that "
+               "one stays in use.")
 CARDS = "[...document.querySelectorAll('article')].map((it) => it.innerText)"
 FORM = slice(192, 197)
 
@@ -47,14 +47,14 @@ def cut_card(it: Technician) -> None:
     it.says("✕ 2 files It was cut.")
     never_says(it, "nothing is missing")
     it.press("Mend these 2…")
-    it.says("torn.edf should last 1 h; 36 min are there. short.edf should last 1 h; 5 min are "
-            "there.", JOINS)
+    it.says("torn.edf should last 1 h; 36 min are in it. short.edf should last 1 h; 5 min are "
+            "in it.", JOINS)
     it.paths = [it.paths[0], *(it.made(f"{name} (mended)", it.mend(name, data)[1])
                                for name, data in (("torn.edf", torn), ("short.edf", short)))]
     it.press("Use these 2")
     it.gives("with what is there of the card")
     it.says("✓ 3 files in 1 recording.", "No gap from 22:00 to 22:36",
-            "torn.edf (mended) should last 1 h; 36 min are there.")
+            "torn.edf (mended) should last 1 h; 36 min are in it.")
     never_says(it, "Everything on")
     it.looks("a cut card")
 
