@@ -165,6 +165,7 @@ def of_a_command(script: Script) -> None:
     script.line("list :memory:", ended(0))
     script.line("take :memory: q.edf", f"q.edf {printed.NEW}", ended(0))
     script.line("convert -", on_error(printed.fault("-", faults.cut())), ended(1))
+    script.empty()
     script.line("take night.db - q.edf", printed.fault("-", faults.cut()).rstrip(),
                 f"q.edf {printed.NEW}", ended(1))
     script.line(f"export :memory: {MOST_PLACE}", on_error(printed.no_recording(MOST_PLACE)),
