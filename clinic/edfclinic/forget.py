@@ -28,7 +28,7 @@ def strip(folder: str, doomed: set[str], whose: Whose) -> None:
         files.remove(join(folder, name))
     made, last = dict[str, bytes](), {WHOSE: files.as_json(whose)} if whose else {}
     if FACTS not in doomed and (facts := nights.read_facts(folder)):
-        gone = {it[2:] for it in lines} - {it[2:] for it in stay}
+        gone = {it[2:4] for it in lines} - {it[2:4] for it in stay}
         lost = [it for it in facts["refused"] if (it["name"], it["answer"]) in gone]
         lost += [it for nth, it in enumerate(facts["card"], 1) if f"card-{nth}.edf" in doomed]
         for it in lost:

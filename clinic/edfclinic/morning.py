@@ -10,7 +10,7 @@ from typing import Any
 from . import files, nights, programs, text
 from .config import Config, Recorder
 from .files import join
-from .place import LOG, REFUSED, TAKEN, Card, Line, Place, check, read_log, unsolved
+from .place import LOG, REFUSED, TAKEN, Card, Line, Place, came_whole, check, read_log
 from .programs import Held, Run, accepted
 from .text import DONE, LOOK, Trouble
 
@@ -177,10 +177,10 @@ class Planning:
             self.give(file, TAKEN, parts, "" if accepted(file.answer) else "differs", False)
         there = {os.path.basename(it.path): it
                  for it in self.known(REFUSED, {line.file: line for line in lines})}
-        open_ones = {it.file for it in unsolved(log)}
+        came = came_whole(log, self.folder)
         for line in lines[:MOST_NAMED]:
             file = there.get(line.file) or File("", line.name, line.answer)
-            self.give(file, REFUSED, parts, "refused", line.file not in open_ones)
+            self.give(file, REFUSED, parts, "refused", line.file in came)
         for part in parts:
             part.facts["look"] = look(part.facts, len(parts))
         if len(lines) > MOST_NAMED:

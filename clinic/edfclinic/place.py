@@ -15,10 +15,25 @@ from .programs import accepted
 from .text import Trouble, Wrong, spell
 
 TAKEN, REFUSED, WORK, LOG, STORE = "taken", "refused", "work", "answers.log", "store.db"
+STILL_WRITTEN = "refused: it was taken before, and was still written to when its morning came"
 
-# A line of the log: the host's time, our name of the file, the uploader's, the answer.
-Line = NamedTuple("Line", [("at", str), ("file", str), ("name", str), ("answer", str)])
 Card = NamedTuple("Card", [("name", str), ("fd", int)])
+
+
+class Line(NamedTuple):
+    """A line of the log, for each contents that were answered, in their order: the host's time, our
+    name of the file, the uploader's (spelled, without quotes), the answer, and how many bytes with
+    which sum were answered, which lines of 2.0.0 lack. What was accepted lies in `taken`. What was
+    refused has its line when it is first seen, and lies in `refused`, but what came behind 1,000
+    others, and what the next contents of that name begin with. What was taken out of the inbox and
+    changed later has a further line of the same name. One that still changes when its night goes is
+    STILL_WRITTEN, of no size: no file has what was written since."""
+    at: str
+    file: str
+    name: str
+    answer: str
+    size: str = ""
+    sum: str = ""
 
 
 def open_cards(paths: list[str]) -> list[Card]:
@@ -110,7 +125,7 @@ def places(config: Config, *roots: str) -> list[Place]:
 
 def read_log(path: str) -> list[Line]:
     parts = [line.split("\t") for line in (files.read(path) or "").split("\n")[:-1]]
-    return [Line(*part) for part in parts if len(part) == 4]
+    return [Line(*part) for part in parts if len(part) in (4, 6)]
 
 
 class Log:
@@ -122,8 +137,9 @@ class Log:
         os.fsync(self.fd)
         files.sync_folder(os.path.dirname(path))
 
-    def add(self, file: str, name: str, answer: str) -> Line:
-        line = Line(text.now(), file, name, answer)
+    def add(self, *told: str) -> Line:
+        """All of the line but its time."""
+        line = Line(text.now(), *told)
         data = "\t".join(line).encode() + b"\n"
         try:
             os.lseek(self.fd, self.size, os.SEEK_SET)
@@ -136,7 +152,16 @@ class Log:
         return line
 
 
-def unsolved(lines: list[Line]) -> list[Line]:
-    """What was refused, but for names of which a file was accepted later."""
-    last = {line.name: nth for nth, line in enumerate(lines) if accepted(line.answer)}
-    return [line for nth, line in enumerate(lines) if last.get(line.name, -1) < nth]
+def came_whole(lines: list[Line], folder: str) -> set[str]:
+    """Our names of what was refused and that a later file, which was accepted, begins with: so all
+    of it came. `folder` is tonight, or a morning."""
+    found, sums = set[str](), dict[tuple[int, str], list[str]]()
+    for line in lines:
+        path = join(folder, TAKEN, line.file)
+        if not accepted(line.answer):
+            if line.size.isdigit():
+                sums.setdefault((int(line.size), line.sum), []).append(line.file)
+        elif sums and files.exists(path):
+            for key in sums.keys() & files.prefix_sums(path, {size for size, _ in sums}):
+                found.update(sums.pop(key))
+    return found
