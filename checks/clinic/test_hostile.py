@@ -217,11 +217,12 @@ def test_a_handle_that_is_kept_changes_nothing_after_the_answer(clinic: Clinic) 
     clinic.until_taken()
     os.write(go[1], b"x")
     assert os.waitpid(child, 0)[1] == 0
-    clinic.until(lambda: "accepted" in clinic.told(), "it is told")
+    clinic.until(lambda: clinic.told().get("written"), "it is told")
+    clinic.until(lambda: len(clinic.log()) == 2, "what it became is answered")
     clinic.stop(receiving)
     taken = list((clinic.data / "r01/tonight/taken").iterdir())
-    assert [it.read_bytes() for it in taken][:1] == [NIGHT.piece()]
-    clinic.done("morning", "r01")
+    assert [it.read_bytes() for it in taken] == [NIGHT.piece()]
+    clinic.done("morning", "r01", status=1)
     assert_all_is_there(clinic.archive(), ("S-0118", NIGHT.truth()))
 
 
@@ -270,6 +271,7 @@ def test_a_file_that_grows_and_one_that_changes_under_the_copy(clinic: Clinic) -
 
 
 def test_many_tiny_files_delay_no_other_recorder(clinic: Clinic, is_long: bool) -> None:
+    clinic.write_config({}, refuse="5 s")
     count = 100_000 if is_long else TINY
 
     def flood() -> None:
@@ -329,7 +331,7 @@ def test_names_are_never_part_of_a_path_or_a_line(clinic: Clinic) -> None:
     log = clinic.log()
     assert {line[2]: line[3] for line in log if line[3].startswith("accepted")} \
         == {spelled: "accepted new=1 known=0" for spelled in NAMES.values()}
-    assert all(len(line) == 4 for line in log) and len(log) == len(NAMES) + 1
+    assert all(len(line) == 6 for line in log) and len(log) == len(NAMES) + 1
     names = {name for name, _ in tree(clinic.data).items() if name.endswith(".edf")}
     assert all(Path(name).stem.isdigit() for name in names)
     for words in (["status"], ["status", "--json"], ["status", "--html"], ["nights", "--json"]):

@@ -49,7 +49,12 @@ def words() -> argparse.ArgumentParser:
 def run(given: argparse.Namespace) -> int:
     if given.command == "help":
         words().parse_args([*filter(None, [given.of]), "--help"])
-    read = config.read(given.config, os.geteuid() == 0)
+    try:
+        read = config.read(given.config, os.geteuid() == 0)
+    except text.Wrong as why:
+        if getattr(given, "tell", False):
+            status.tell_wrong(given.config, why)
+        raise
     if given.command == "receive" and bool(given.recorder) == given.all:
         raise text.Wrong("receive wants a RECORDER, or --all")
     if getattr(given, "recorder", None):
@@ -68,13 +73,20 @@ def run(given: argparse.Namespace) -> int:
 
 
 def main() -> int:
+    if sys.stdout is None or sys.stderr is None:    # they are closed
+        return text.TROUBLE
     for stream in (sys.stdout, sys.stderr):
         if isinstance(stream, io.TextIOWrapper):
             stream.reconfigure(errors="backslashreplace")
     try:
-        return run(words().parse_args())
-    except (text.Wrong, text.Trouble, OSError, KeyError) as why:
+        try:
+            return run(words().parse_args())
+        finally:
+            sys.stdout.flush()
+    except Exception as why:
         text.say(f"edfclinic: {text.why(why)}")
+        for stream in (sys.stdout, sys.stderr):     # what it did not take goes nowhere
+            os.dup2(os.open(os.devnull, os.O_WRONLY), stream.fileno())
         return getattr(why, "status", text.TROUBLE)
 
 

@@ -145,8 +145,15 @@ def sum_of_file(path: str) -> str:
         return sum_of(fd)
 
 
+def walk(path: str) -> Iterator[tuple[str, list[str], list[str]]]:
+    """Its folders; one that can't be listed is an error, and not an empty one."""
+    def fail(why: OSError) -> None:
+        raise why
+    return os.walk(path, topdown=False, onerror=fail)
+
+
 def sync_tree(path: str) -> None:
-    for above, _, listed in os.walk(path, topdown=False):
+    for above, _, listed in walk(path):
         for name in listed:
             with opened(join(above, name)) as fd:
                 os.fsync(fd)
@@ -155,7 +162,7 @@ def sync_tree(path: str) -> None:
 
 def below(path: str) -> list[str]:
     return sorted(os.path.relpath(join(above, name), path)
-                  for above, _, listed in os.walk(path) for name in listed)
+                  for above, _, listed in (walk(path) if exists(path) else ()) for name in listed)
 
 
 def names(path: str) -> list[str]:

@@ -1,7 +1,6 @@
 """morning: plans, and puts the night away by renames. A kill between two leaves what the next call
 goes on with: a `morning` without a plan, which takes cards, or with one, which is finished."""
 import os
-from bisect import bisect_right
 from contextlib import closing
 from dataclasses import dataclass, field
 from datetime import timedelta
@@ -11,12 +10,11 @@ from . import files, nights, programs, text
 from .config import Config, Recorder
 from .files import join
 from .place import LOG, REFUSED, TAKEN, Card, Line, Place, came_whole, check, read_log
-from .programs import Held, Run, accepted
+from .programs import CONFLICTS, Held, Run, accepted, missing
 from .text import DONE, LOOK, Trouble
 
 CARDS, PLAN, WAIT = "cards", "plan.json", 120.0     # seconds for which receive may be busy
 MOST_NAMED, MOST_NIGHTS = 1_000, 100
-CONFLICTS = ("refused E30 ", "refused E31 ")
 Sums = list[tuple[Card, str]]
 
 
@@ -44,18 +42,6 @@ def is_cut(before: Run, after: Run, recorder: Recorder) -> bool:
     gap = after.first - before.end
     ends = before.end + (recorder.ends * text.MINUTE - before.end) % (24 * text.HOUR)
     return gap >= recorder.pause * text.SECOND or gap >= 30 * text.MINUTE and ends <= after.first
-
-
-def missing(runs: list[Run], held: list[Run]) -> int:
-    """Nanoseconds of these runs that the others, which are in order, lack."""
-    lacks, ends = 0, [it.end for it in held]
-    for run in runs:
-        at, nth = run.first, bisect_right(ends, run.first)
-        while nth < len(held) and held[nth].first < run.end:
-            lacks += max(0, held[nth].first - at)
-            at, nth = held[nth].end, nth + 1
-        lacks += max(0, run.end - at)
-    return lacks
 
 
 class Planning:

@@ -181,5 +181,9 @@ def verify(config: Config, given: list[str]) -> int:
     known = [it for place in places(config) for it in folders(place)]
     chosen = [join(place.archive, name) for place, name in map(lambda it: find(config, it), given)]
     wrong = [said for folder in chosen or known for said in differing(folder, folder)]
-    print("\n".join([*wrong, f"{len(chosen or known)} nights, {len(wrong)} files changed"]))
+    said = f"{len(wrong)} files changed"
+    print("\n".join([*wrong, f"{len(chosen or known)} nights, {said}"]))
+    if not chosen:      # for status; told to everybody, so without names
+        told = {"at": text.now(), "failed": said * bool(wrong)}
+        files.replace(join(config.data, "verify.json"), files.as_json(told))
     return LOOK if wrong else DONE

@@ -15,7 +15,8 @@ from .programs import accepted
 from .text import Trouble, Wrong, spell
 
 TAKEN, REFUSED, WORK, LOG, STORE = "taken", "refused", "work", "answers.log", "store.db"
-STILL_WRITTEN = "refused: it was taken before, and was still written to when its morning came"
+STILL_WRITTEN = "refused: it was taken before, and was still written to when receiving ended"
+BEGUN_BY = 1_000        # refused files of which it is asked whether a later one begins with them
 
 Card = NamedTuple("Card", [("name", str), ("fd", int)])
 
@@ -152,16 +153,23 @@ class Log:
         return line
 
 
+def is_begun(line: Line, later: Line, sums: set[tuple[int, str]]) -> bool:
+    """Whether the later file, with these sums of its beginnings, begins with all that the line is
+    of. Many files begin with the same part of a head."""
+    is_head = int(line.size or 0) < 256
+    return (int(line.size or 0), line.sum) in sums and (not is_head or line.name == later.name)
+
+
 def came_whole(lines: list[Line], folder: str) -> set[str]:
     """Our names of what was refused and that a later file, which was accepted, begins with: so all
-    of it came. `folder` is tonight, or a morning."""
-    found, sums = set[str](), dict[tuple[int, str], list[str]]()
+    of it came. `folder` is tonight, or a morning. 1,000 are looked for at a time."""
+    found, open_ones = set[str](), list[Line]()
     for line in lines:
         path = join(folder, TAKEN, line.file)
         if not accepted(line.answer):
-            if line.size.isdigit():
-                sums.setdefault((int(line.size), line.sum), []).append(line.file)
-        elif sums and files.exists(path):
-            for key in sums.keys() & files.prefix_sums(path, {size for size, _ in sums}):
-                found.update(sums.pop(key))
+            open_ones += [line][:line.size.isdigit() and len(open_ones) < BEGUN_BY]
+        elif open_ones and files.exists(path):
+            sums = files.prefix_sums(path, {int(it.size) for it in open_ones})
+            found |= {it.file for it in open_ones if is_begun(it, line, sums)}
+            open_ones = [it for it in open_ones if it.file not in found]
     return found

@@ -3,6 +3,7 @@ import errno
 import os
 import re
 import sys
+from contextlib import suppress
 from datetime import datetime, timedelta, timezone
 
 FULL = (errno.ENOSPC, errno.EDQUOT)
@@ -50,11 +51,13 @@ def why(error: Exception) -> str:
     if isinstance(error, OSError) and error.strerror:
         room = "; make room" if error.errno in FULL else ""
         return spell(f"{os.fsdecode(error.filename or 'trouble')}: {error.strerror}{room}")
-    return spell(str(error))
+    is_told = isinstance(error, (Trouble, Wrong, OSError, ValueError))
+    return spell(str(error) if is_told else f"{type(error).__name__} {error}".strip())
 
 
 def say(text: str) -> None:
-    print(text, file=sys.stderr, flush=True)
+    with suppress(OSError):
+        print(text, file=sys.stderr, flush=True)
 
 
 def nanoseconds(text: str) -> int:
@@ -82,6 +85,14 @@ def now() -> str:
     return datetime.now(timezone.utc).strftime(AT)
 
 
+def moment(told: str) -> datetime:
+    return datetime.strptime(told, AT).replace(tzinfo=timezone.utc)
+
+
 def seconds_since(told: str) -> float:
-    then = datetime.strptime(told, AT).replace(tzinfo=timezone.utc)
-    return (datetime.now(timezone.utc) - then).total_seconds()
+    return (datetime.now(timezone.utc) - moment(told)).total_seconds()
+
+
+def here(told: str) -> str:
+    """By this host's clock, as everybody reads it."""
+    return moment(told).astimezone().strftime("%H:%M on %Y-%m-%d")
