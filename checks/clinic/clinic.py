@@ -166,7 +166,7 @@ class Clinic:
     def log(self, recorder: str = "r01", folder: str = "tonight") -> list[list[str]]:
         """The lines of the log, as lists of their fields."""
         path = self.data / recorder / folder / "answers.log"
-        return [line.split("\t") for line in path.read_text().splitlines()]
+        return [line.split("\t") for line in path.read_text().splitlines()] if path.exists() else []
 
     def archive(self, recorder: str = "r01") -> list[Path]:
         """The folders of its nights, by their names."""

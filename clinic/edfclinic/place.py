@@ -16,7 +16,7 @@ from .text import Trouble, Wrong, spell
 
 TAKEN, REFUSED, WORK, LOG, STORE = "taken", "refused", "work", "answers.log", "store.db"
 STILL_WRITTEN = "refused: it was taken before, and was still written to when receiving ended"
-BEGUN_BY = 1_000        # refused files of which it is asked whether a later one begins with them
+MOST_BEGUN = 1_000      # refused files of which it is asked whether a later one begins with them
 
 Card = NamedTuple("Card", [("name", str), ("fd", int)])
 
@@ -153,23 +153,21 @@ class Log:
         return line
 
 
-def is_begun(line: Line, later: Line, sums: set[tuple[int, str]]) -> bool:
-    """Whether the later file, with these sums of its beginnings, begins with all that the line is
-    of. Many files begin with the same part of a head."""
-    is_head = int(line.size or 0) < 256
-    return (int(line.size or 0), line.sum) in sums and (not is_head or line.name == later.name)
+def begun_by(refused: list[Line], later: Line, path: str) -> set[str]:
+    """Our names of those with all of which this later file begins. Many have the same head."""
+    sums = files.prefix_sums(path, {int(it.size) for it in refused[:MOST_BEGUN] if it.size})
+    return {it.file for it in refused[:MOST_BEGUN] if it.size and (int(it.size), it.sum) in sums
+            and (int(it.size) >= 256 or it.name == later.name)}
 
 
 def came_whole(lines: list[Line], folder: str) -> set[str]:
-    """Our names of what was refused and that a later file, which was accepted, begins with: so all
-    of it came. `folder` is tonight, or a morning. 1,000 are looked for at a time."""
-    found, open_ones = set[str](), list[Line]()
+    """The same of all that was accepted later; `folder` is tonight, or a morning."""
+    found, refused = set[str](), list[Line]()
     for line in lines:
         path = join(folder, TAKEN, line.file)
         if not accepted(line.answer):
-            open_ones += [line][:line.size.isdigit() and len(open_ones) < BEGUN_BY]
-        elif open_ones and files.exists(path):
-            sums = files.prefix_sums(path, {int(it.size) for it in open_ones})
-            found |= {it.file for it in open_ones if is_begun(it, line, sums)}
-            open_ones = [it for it in open_ones if it.file not in found]
+            refused.append(line)
+        elif refused and files.exists(path):
+            found |= begun_by(refused, line, path)
+            refused = [it for it in refused if it.file not in found]
     return found

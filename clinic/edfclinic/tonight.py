@@ -6,8 +6,7 @@ from . import files, programs, text
 from .config import Recorder
 from .files import join
 from .inbox import Later
-from .place import (BEGUN_BY, LOG, REFUSED, STORE, TAKEN, WORK, Line, Log, Place, came_whole,
-                    is_begun, read_log)
+from .place import LOG, REFUSED, STORE, TAKEN, WORK, Line, Log, Place, begun_by, came_whole, read_log
 from .programs import CONFLICTS, Run, accepted, missing
 
 KEPT = 1_000                # refused files
@@ -36,16 +35,16 @@ class Tonight:
             files.make_folder(self.path(name))
         self.lines = read_log(self.path(LOG))
         self.known = {it[2:]: it for it in self.lines if not accepted(it.answer)}
-        names = [(folder, it) for folder in (TAKEN, REFUSED) for it in files.names(self.path(folder))]
+        names = [(of, it) for of in (TAKEN, REFUSED) for it in files.names(self.path(of))]
         self.bytes = sum(os.stat(self.path(*it)).st_size for it in names)
-        self.kept = sum(folder == REFUSED for folder, _ in names)
-        before = read_log(join(place.morning, LOG))
-        used = [*(it for _, it in names), *(it.file for it in [*self.lines, *before])]
+        self.kept = sum(of == REFUSED for of, _ in names)
+        used = [*(it for _, it in names), *(it.file for it in [*self.lines, *read_log(
+            join(place.morning, LOG))])]
         self.next = 1 + max((int(name[:-4]) for name in used if name[:-4].isdigit()), default=0)
-        # By the patient's code; and what was refused, by our names.
-        self.runs, self.records, self.widest = (dict[str, list[Run]](), dict[str, int](),
-                                                dict[str, int]())
-        self.lacking = dict[str, Came]()
+        self.runs: dict[str, list[Run]] = {}        # these three by the patient's code
+        self.records: dict[str, int] = {}
+        self.widest: dict[str, int] = {}
+        self.lacking: dict[str, Came] = {}          # what was refused, by our names
         came = came_whole(self.lines, place.tonight)
         for line in self.lines:
             if accepted(line.answer):
@@ -95,12 +94,13 @@ class Tonight:
 
     def add(self, came: Came) -> None:
         code, new = came.code, programs.NEW.match(came.line.answer)
-        self.runs[code] = merged(self.runs.get(code, []) + came.runs)
+        self.runs[code] = self.runs.get(code, []) + came.runs
         self.records[code] = self.records.get(code, 0) + (int(new[1]) if new else 0)
         self.widest[code] = max(self.widest.get(code, 0), came.width)
 
     def reckon(self) -> None:
         """Minutes that nobody sent, and what was refused of which the night lacks something."""
+        self.runs = {code: merged(runs) for code, runs in self.runs.items()}
         runs = merged([run for those in self.runs.values() for run in those])
         lacks = [after.first - before.end for before, after in zip(runs, runs[1:])]
         self.gap = sum(it for it in lacks if it < self.recorder.pause * text.SECOND)
@@ -119,16 +119,16 @@ class Tonight:
             self.bytes, self.kept = self.bytes + int(line.size), self.kept + (not is_accepted)
         if is_accepted:
             self.add(came)
-            begun = list(self.lacking.values())[:BEGUN_BY]
-            sums = files.prefix_sums(path, {int(it.line.size or 0) for it in begun})
-            for it in begun:
-                if is_begun(it.line, line, sums):
-                    self.lacking.pop(it.line.file)
+            for file in begun_by([it.line for it in self.lacking.values()], line, path):
+                self.lacking.pop(file)
         else:
             self.lacking[line.file] = came._replace(line=line)
+        old = self.path(REFUSED, before.file) if before and before.file != line.file else ""
+        if before and files.exists(old) and files.exists(path) and begun_by([before], line, path):
+            files.remove(old)
+            self.bytes, self.kept = self.bytes - int(before.size), self.kept - 1
+            self.lacking.pop(before.file, None)
         self.reckon()
-        if before and before.file != line.file and files.exists(path):
-            self.supersede(before, path)
         return line
 
     def lack(self, line: Line) -> None:
@@ -142,10 +142,3 @@ class Tonight:
             self.known[line[2:]] = line
         text.say(f"{self.place.name}: {text.named('file', line.name)}: {line.answer}")
         return line
-
-    def supersede(self, before: Line, path: str) -> None:
-        old, size = self.path(REFUSED, before.file), int(before.size or 0)
-        if files.exists(old) and (size, before.sum) in files.prefix_sums(path, {size}):
-            files.remove(old)
-            self.bytes, self.kept = self.bytes - size, self.kept - 1
-            self.lacking.pop(before.file, None)
