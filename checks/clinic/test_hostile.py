@@ -318,6 +318,8 @@ NAMES = {b"esc\x1b]52;c;QUFB\x07.edf": r"esc\x1b]52;c;QUFB\x07.edf",
          "rtl\u202efde.edf".encode(): r"rtl\xe2\x80\xaefde.edf",
          "sep\u2028.edf".encode(): r"sep\xe2\x80\xa8.edf", b"--help": "--help", b"-rf": "-rf",
          b"$(touch x)`id`;'\".edf": "$(touch x)`id`;'\".edf", b" lead ": " lead ",
+         b'say "x" accepted new=9 known=0': 'say "x" accepted new=9 known=0',
+         "zero\u200b\u2060\ufeff\xad".encode(): r"zero\xe2\x80\x8b\xe2\x81\xa0\xef\xbb\xbf\xc2\xad",
          b"a" * 255: "a" * 255, b"<script>&.edf": "<script>&.edf", "ü.edf".encode(): "ü.edf"}
 
 
@@ -325,8 +327,10 @@ def test_names_are_never_part_of_a_path_or_a_line(clinic: Clinic) -> None:
     receiving = clinic.receive()
     for nth, name in enumerate(NAMES):
         clinic.put(name, NIGHT.piece(nth, nth + 1))
-    clinic.put(b"bad\x1b.edf", b"no EDF")
+    clinic.put(b'bad\x1b".edf', b"no EDF")
     clinic.until_taken()
+    clinic.until(lambda: clinic.told()["refused_count"], "it is refused")
+    assert '  refused: file "bad\\x1b\\x22.edf": refused E1 Cut\n' in clinic.done("status", status=1)
     clinic.stop(receiving, signal.SIGTERM)
     log = clinic.log()
     assert {line[2]: line[3] for line in log if line[3].startswith("accepted")} \
@@ -341,7 +345,7 @@ def test_names_are_never_part_of_a_path_or_a_line(clinic: Clinic) -> None:
     assert "script" not in page and "S-0118" not in page and "edf" not in page
     clinic.done("morning", "r01", status=1)
     text = (clinic.archive()[0] / "report.txt").read_bytes()
-    assert b"\x1b" not in text and rb"bad\x1b.edf" in text
+    assert b"\x1b" not in text and rb"bad\x1b" in text
 
 
 def test_planted_sums_json_and_pictures_are_files_as_any_other(clinic: Clinic) -> None:

@@ -115,16 +115,6 @@ def test_two_small_files_with_which_a_night_would_be_huge(clinic: Clinic, monkey
     assert_all_is_there(clinic.archive(), ("S-0118", night.truth(range(400))))
 
 
-def test_a_night_is_full_by_its_store_too(clinic: Clinic) -> None:
-    clinic.write_config({}, largest_night=f"{3 * len(NIGHT.piece())} B")
-    clinic.night_took({"a.edf": NIGHT.piece()})
-    child = clinic.receive()
-    clinic.put("b.edf", NIGHT.later(investigation="N2").piece())
-    clinic.until(lambda: clinic.told().get("full"), "full")
-    assert clinic.inbox() == ["b.edf"]
-    clinic.stop(child)
-
-
 def test_a_morning_waits_for_no_receive_that_begins(clinic: Clinic) -> None:
     """It asks a program of each file, which takes two seconds here."""
     clinic.night_took({f"{nth}.edf": NIGHT.piece(nth, nth + 1) for nth in range(20)})

@@ -8,7 +8,7 @@ from typing import Any
 import pytest
 
 from checks.clinic import (test_archive, test_disks, test_hostile, test_kills, test_morning,
-                           test_taking)
+                           test_taking, test_written)
 from checks.clinic.clinic import SERVICE, Clinic
 from checks.lib import disks
 from checks.lib.arguments import TOP
@@ -18,18 +18,18 @@ NO_LINK = "os.O_RDONLY | os.O_NOFOLLOW | os.O_NONBLOCK"
 WRONG: dict[str, Any] = {
     "follows a link": (
         ("files.py", NO_LINK, "os.O_RDONLY | os.O_NONBLOCK"),
-        ("receive.py", "status = os.stat(name, dir_fd=fd, follow_symlinks=False)",
+        ("inbox.py", "status = os.stat(name, dir_fd=fd, follow_symlinks=False)",
          "status = os.stat(name, dir_fd=fd)"),
         test_hostile.test_links_pipes_and_sockets_are_left_and_told),
     "looks, and then opens": (
         ("files.py", NO_LINK, "os.O_RDONLY | os.O_NONBLOCK"),
-        ("receive.py", "if self.why_left(status) or key_of(status) != entry.key:", "if False:"),
-        ("receive.py", "if count != entry.key[1] or key_of(os.fstat(fd)) != entry.key:", "if False:"),
+        ("inbox.py", "if self.why_left(status) or key_of(status) != entry.key:", "if False:"),
+        ("inbox.py", "if count != key[1] or key_of(os.fstat(fd)) != key:", "if False:"),
         test_hostile.test_a_name_that_is_exchanged_between_the_look_and_the_opening),
     "moves in place of copying": (
-        ("receive.py", "            count = files.copy(fd, target, entry.key[1])[0]\n",
+        ("inbox.py", "            return copy(fd, entry.key, target)\n",
          "            os.rename(os.path.join(self.config.inboxes, self.name, entry.name), target)\n"
-         "            count = entry.key[1]\n"),
+         "            return files.sum_of(fd)\n"),
         test_hostile.test_a_handle_that_is_kept_changes_nothing_after_the_answer),
     "waits for a lease": (
         ("files.py", NO_LINK, "os.O_RDONLY | os.O_NOFOLLOW"),
@@ -59,14 +59,25 @@ WRONG: dict[str, Any] = {
         ("morning.py", "if any(it.answer.startswith(CONFLICTS) for it in cards):", "if False:"),
         test_morning.test_a_card_with_a_flipped_bit),
     "takes a file out of the inbox before it is told": (
-        ("receive.py", "            given = programs.prepared(copied",
-         "            self.inbox.remove(entry)\n            given = programs.prepared(copied"),
+        ("receive.py", "                seen.line = self.take(",
+         "                self.inbox.take_out(entry, Line('', '', '', '', '0', ''))\n"
+         "                seen.line = self.take("),
         test_taking.test_a_killed_receive_loses_nothing_and_takes_nothing_away),
     "removes the morning from its plan on": (
         ("morning.py", "        files.rename(self.place.morning, self.gone)\n",
          "        files.remove(join(self.place.morning, PLAN))\n"
          "        files.rename(self.place.morning, self.gone)\n"),
         test_kills.test_killed_where_the_morning_ends),
+    "keeps nothing open of what it took": (
+        ("inbox.py", "                self.keep_open(folder, entry, line)\n", ""),
+        test_written.test_what_is_still_written_when_the_morning_comes_is_a_look),
+    "takes a file out by its name alone": (
+        ("inbox.py", "if key_of(os.stat(ASIDE, dir_fd=folder, follow_symlinks=False)) != entry.key:",
+         "if False:"),
+        test_written.test_a_file_that_gets_the_name_of_one_that_is_taken_out),
+    "believes a name": (
+        ("place.py", "and (int(it.size), it.sum) in sums", "and it.name == later.name"),
+        test_written.test_a_name_that_is_used_again_hides_nothing),
     "does not tell a full disk": (
         ("receive.py", "seen.full = str(why) if isinstance(why, Full) else \"\"",
          "seen.full = \"\""),

@@ -177,7 +177,7 @@ def tell_wrong(path: str, why: Wrong) -> None:
     """Of a config that can't be read: by its alarm, where that can be, else by the last one."""
     given = configs.readable(path)
     data = given.get("data", Config.data)
-    before = files.from_json(os.path.join(data, "told.json"))
-    last = before["alarm"] if isinstance(before, dict) else []
-    if os.geteuid() and os.stat(data).st_uid == os.geteuid():
+    if os.geteuid() and files.exists(data) and os.stat(data).st_uid == os.geteuid():
+        before = files.from_json(os.path.join(data, "told.json"))
+        last = before["alarm"] if isinstance(before, dict) else []
         tell(given.get("alarm", last), data, [cause_of("config", why)])
