@@ -91,7 +91,7 @@ def ends(clinic: Clinic, line: str, *words: Any) -> int:
 def test_an_output_that_fails_want_of_memory_and_a_listing_that_fails_are_trouble(
         clinic: Clinic) -> None:
     clinic.night_took({"a.edf": NIGHT.piece()})
-    for words in (["status"], ["nights"], ["forget", "S-1"], ["help"]):
+    for words in (["status"], ["nights"], ["verify"], ["help"]):
         for to in (">/dev/full", ">&-"):
             assert ends(clinic, f'"$@" {to}', *words) == 3, (words, to)
     assert clinic.run("status", set={"status.LISTS": None}).status == 3

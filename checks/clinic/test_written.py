@@ -1,5 +1,6 @@
 """A writer that goes on, names that are used again, and what a morning could not put away."""
 import os
+import subprocess
 import time
 from typing import Any
 
@@ -39,18 +40,20 @@ def test_what_is_written_after_it_was_taken_is_taken_again(clinic: Clinic, more:
 
 
 def test_what_is_still_written_when_the_morning_comes_is_a_look(clinic: Clinic) -> None:
-    clinic.write_config({}, still="3 s")
     child = clinic.receive()
-    with open(clinic.put("CURRENT.EDF", NIGHT.piece()), "ab") as writer:
+    path = clinic.put("CURRENT.EDF", NIGHT.piece())
+    with open(path, "ab") as writer:
         clinic.until_taken()
-        writer.write(b"more")
-        writer.flush()
-        clinic.until(lambda: clinic.told().get("written"), "it is told")
-        clinic.done("morning", "r01", status=1)
-        night = clinic.archive()[0]
-        assert "refused: it was taken before, and was still written to when receiving ended" in (
-            night / "answers.log").read_text()
-        clinic.until(lambda: clinic.told().get("refused_count"), "it is taken in the next night")
+        with subprocess.Popen(["yes"], stdout=subprocess.PIPE) as source, \
+                subprocess.Popen(["sh", "-c", "while sleep 0.1; do head -c 9; done"],
+                                 stdin=source.stdout, stdout=writer) as going_on:
+            clinic.until(lambda: clinic.told().get("written"), "it is told")
+            clinic.done("morning", "r01", status=1)
+            going_on.kill()
+            source.kill()
+    assert "refused: it was taken before, and was still written to when receiving ended" in (
+        clinic.archive()[0] / "answers.log").read_text()
+    clinic.until(lambda: clinic.told().get("refused_count"), "it is taken in the next night")
     clinic.stop(child)
 
 
