@@ -119,7 +119,7 @@ def status(config: Config, is_json: bool, is_html: bool, is_telling: bool) -> in
 
 
 def cause_of(what: str, why: Exception) -> Cause:
-    return {"recorder": None, "cause": what, "text": text.why(why)}
+    return {"recorder": None, "cause": what, "text": text.why(why).removeprefix(f"{what}: ")}
 
 
 def cause(it: Cause) -> str:

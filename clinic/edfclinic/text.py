@@ -51,8 +51,7 @@ def why(error: Exception) -> str:
     if isinstance(error, OSError) and error.strerror:
         room = "; make room" if error.errno in FULL else ""
         return spell(f"{os.fsdecode(error.filename or 'trouble')}: {error.strerror}{room}")
-    is_told = isinstance(error, (Trouble, Wrong, OSError, ValueError))
-    return spell(str(error) if is_told else f"{type(error).__name__} {error}".strip())
+    return spell(str(error) or type(error).__name__)
 
 
 def say(text: str) -> None:
