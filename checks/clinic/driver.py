@@ -114,7 +114,8 @@ def main() -> None:
     sys.argv = ["edfclinic", *sys.argv[3:]]
     sys.path.insert(0, source)
     sys.dont_write_bytecode = True
-    from edfclinic import __main__, receive     # type: ignore[import]
+    from edfclinic import __main__, morning, receive   # type: ignore[import]
+    morning.RUNS = 0.3
     receive.TICK, receive.RESTART, receive.AGAIN = how.get("tick", 0.05), 0.2, 0.3
     for name, value in how.get("set", {}).items():
         module, _, key = name.partition(".")

@@ -39,24 +39,24 @@ WRONG: dict[str, Any] = {
         test_hostile.test_names_are_never_part_of_a_path_or_a_line),
     "writes over a night": (
         ("nights.py", "if it not in used)", ")"),
-        ("nights.py", "    if files.exists(target):\n        return read_facts(target)\n", ""),
+        ("making.py", "    if not files.exists(target):\n", "    if target:\n"),
         ("files.py", "    if exists(new) and os.path.isdir(old):\n", "    if not exists(old):\n"),
-        ("nights.py", "    files.rename(new, join(place.archive, made[\"night\"]))",
-         "    files.remove_tree(join(place.archive, made[\"night\"]))\n"
-         "    files.rename(new, join(place.archive, made[\"night\"]))"),
+        ("making.py", "    files.rename(new, target)",
+         "    files.remove_tree(target)\n    files.rename(new, target)"),
         test_morning.test_a_nap_and_a_night_of_one_day_have_two_names),
     "forgets the minutes of a refused file": (
-        ("morning.py", "lacks = sum(run.end - run.first for run in runs), missing(runs, held)",
+        ("giving.py", "lacks = sum(run.end - run.first for run in runs), missing(runs, held)",
          "lacks = sum(run.end - run.first for run in runs), 0"),
         test_morning.test_a_clock_that_is_set_back_by_two_seconds),
     "takes a card twice": (
-        ("morning.py", "elif summed in known:", "elif not summed:"),
+        ("morning.py", "if summed in known:\n                self",
+         "if not summed:\n                self"),
         test_morning.test_a_card_twice_and_a_late_file),
     "joins two nights of code X": (
-        ("morning.py", "return gap >= recorder.pause * text.SECOND or", "return False and"),
+        ("nights.py", "return gap >= recorder.pause * text.SECOND or", "return False and"),
         test_morning.test_two_nights_of_code_x_are_not_joined),
     "leaves out a card that contradicts": (
-        ("morning.py", "if any(it.answer.startswith(CONFLICTS) for it in cards):", "if False:"),
+        ("plan.py", "if not any(it.answer.startswith(CONFLICTS) for it in cards):", "if True:"),
         test_morning.test_a_card_with_a_flipped_bit),
     "takes a file out of the inbox before it is told": (
         ("receive.py", "                seen.line = self.take(",

@@ -8,7 +8,7 @@ from shutil import disk_usage
 from typing import Any
 
 from . import config as configs
-from . import files, text
+from . import files, nights, text
 from .config import Config
 from .place import Place
 from .text import DONE, LOOK, Trouble, Wrong, named
@@ -64,6 +64,9 @@ def causes_of(config: Config, place: Place, told: dict[str, Any]) -> Iterator[tu
     if begun and text.seconds_since(begun) > 60 * minutes_since(recorder.ends):
         yield "waiting", f"what came since {text.here(begun)} is not put away: " \
             f"call edfclinic morning {name}"
+    for folder in nights.strays(place):
+        yield "rest", f"{folder} has files of patients who had no night: read its answers.log, " \
+            f"then edfclinic seen {name}/{os.path.basename(folder)} --why TEXT"
     for it in told.get("written", [])[-1:]:
         yield "written", f"{named('file', it['name'])} was taken at {text.here(it['answer'])} and " \
             "is still written to: have the recorder write elsewhere and upload, or use .part"
