@@ -271,7 +271,7 @@ def test_a_file_that_grows_and_one_that_changes_under_the_copy(clinic: Clinic) -
 
 
 def test_many_tiny_files_delay_no_other_recorder(clinic: Clinic, is_long: bool) -> None:
-    clinic.write_config({}, refuse="5 s")
+    clinic.write_config({}, refuse="60 s")
     count = 100_000 if is_long else TINY
 
     def flood() -> None:
