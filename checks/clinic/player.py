@@ -1,15 +1,13 @@
 """Runs commands of edfclinic, each in a child that has its modules already, by a clock that stands
 still while they run.
 
-    python3 -I player.py SOURCE CLOCK CONFIG RECORDER...
+    python3 -I player.py SOURCE CONFIG
 
-A line of standard input is JSON: {"words": [..], "out": PATH} begins a child, whose number is
-answered; {"wait": NUMBER} waits for its end, and its status is answered. CLOCK is a file of
-numbers: the seconds since START, then for each recorder what its receive saw of them when it slept
-last, and how often it slept.
+A line of standard input is JSON. {"words": [..], "out": PATH, "clock": SECONDS, "pipes": [A, B]}
+begins a child, whose number is answered; {"wait": NUMBER} waits for its end, and its status is
+answered. Who sleeps writes a byte to A, and reads from B what the clock is when it wakes.
 """
 import json
-import mmap
 import os
 import signal
 import struct
@@ -20,31 +18,28 @@ from typing import Any
 
 START = datetime(2026, 11, 2, tzinfo=timezone.utc)
 REAL = ("edfclinic.files", "edfclinic.programs")    # locks and programs take their time
-NAP = 0.004
 
 
 class Clock:
-    """Stands for the module `time`. Who sleeps has seen the clock, and waits for it to go on."""
+    """Stands for the module `time`."""
 
-    def __init__(self, path: str, slot: int):
-        with open(path, "r+b") as file:
-            self.memory = mmap.mmap(file.fileno(), 0)
-        self.slot, self.seen, self.slept = slot, 0.0, 0
+    def __init__(self, now: float, pipes: list[int]):
+        self.now, self.pipes = now, pipes
 
     def monotonic(self) -> float:
-        self.seen = struct.unpack_from("d", self.memory)[0]
-        return self.seen
+        return self.now
 
     def time(self) -> float:
-        return START.timestamp() + float(struct.unpack_from("d", self.memory)[0])
+        return START.timestamp() + self.now
 
     def localtime(self, *given: float) -> Any:
         return time.gmtime(*(given or [self.time()]))
 
-    def sleep(self, _: float) -> None:
-        self.slept += 1
-        struct.pack_into("dd", self.memory, 8 + 16 * self.slot, self.seen, self.slept)
-        time.sleep(NAP)
+    def sleep(self, seconds: float) -> None:
+        if not self.pipes:
+            return time.sleep(seconds)
+        os.write(self.pipes[0], b".")
+        self.now = struct.unpack("d", os.read(self.pipes[1], 8))[0]
 
     def __getattr__(self, name: str) -> Any:
         return getattr(time, name)
@@ -54,30 +49,30 @@ def set_clock(clock: Clock) -> None:
     class Shown(datetime):
         @classmethod
         def now(cls, tz: Any = None) -> Any:
-            return (START + timedelta(seconds=clock.time() - START.timestamp())).astimezone(tz)
+            return (START + timedelta(seconds=clock.now)).astimezone(tz)
     for name, module in list(sys.modules.items()):
         if name.startswith("edfclinic.") and name not in REAL and hasattr(module, "time"):
             setattr(module, "time", clock)
     setattr(sys.modules["edfclinic.text"], "datetime", Shown)
 
 
-def play(given: dict[str, Any], clock: str, config: str, recorders: list[str]) -> int:
+def play(given: dict[str, Any], config: str) -> int:
     from edfclinic import __main__      # type: ignore[import]
-    for stream, name in ((sys.stdout, "out"), (sys.stderr, "err")):
-        fd = os.open(f"{given['out']}.{name}", os.O_WRONLY | os.O_CREAT | os.O_TRUNC, 0o644)
-        os.dup2(fd, stream.fileno())
-    os.dup2(os.open("/dev/null", os.O_RDONLY), 0)
-    words = given["words"]
-    set_clock(Clock(clock, recorders.index(words[-1]) if words[0] == "receive" else 0))
-    sys.argv = ["edfclinic", "--config", config, *words]
+    for number, name in ((0, ""), (1, ".out"), (2, ".err")):
+        flags = os.O_WRONLY | os.O_CREAT | os.O_TRUNC if name else os.O_RDONLY
+        fd = os.open(f"{given['out']}{name}" if name else "/dev/null", flags, 0o644)
+        os.dup2(fd, number)
+        os.close(fd)
+    set_clock(Clock(given["clock"], given["pipes"]))
+    sys.argv = ["edfclinic", "--config", config, *given["words"]]
     return int(__main__.main())
 
 
-def child(given: dict[str, Any], clock: str, config: str, recorders: list[str]) -> None:
+def child(given: dict[str, Any], config: str) -> None:
     status: object = 1
     try:
         os.setsid()
-        status = play(given, clock, config, recorders)
+        status = play(given, config)
     except SystemExit as ended:
         status = ended.code or 0
     except BaseException:
@@ -89,7 +84,7 @@ def child(given: dict[str, Any], clock: str, config: str, recorders: list[str]) 
 
 
 def main() -> None:
-    source, clock, config, *recorders = sys.argv[1:]
+    source, config = sys.argv[1:]
     sys.path.insert(0, source)
     sys.dont_write_bytecode = True
     import edfclinic.__main__       # noqa: F401
@@ -101,7 +96,7 @@ def main() -> None:
         else:
             begun = os.fork()
             if not begun:
-                child(given, clock, config, recorders)
+                child(given, config)
             print(begun, flush=True)
 
 

@@ -82,12 +82,12 @@ class Truth:
         return {it for folder in self.folders() for _, piece in self.raw(folder)
                 for it in piece.records}
 
-    def pending(self, *kinds: str) -> set[bytes]:
+    def pending(self, *kinds: str, bed: str = "*") -> set[bytes]:
         """What lies in inboxes, in tonight, in a morning that is unfinished."""
         paths = [it for kind in kinds or ("taken", "refused", "cards")
-                 for it in self.data.glob(f"*/*/{kind}/*.edf")]
+                 for it in self.data.glob(f"{bed}/*/{kind}/*.edf")]
         if not kinds or "inbox" in kinds:
-            paths += [it for it in self.inboxes.glob("*/[!.]*") if it.is_file()]
+            paths += [it for it in self.inboxes.glob(f"{bed}/[!.]*") if it.is_file()]
         return {samples for it in paths for samples in self.known(it).records}
 
     def facts(self, folder: Path) -> Any:

@@ -1,9 +1,9 @@
 """A clinic by chance: recorders, their faults, their mornings, and what must be so after each."""
 import fcntl
 import json
-import mmap
 import os
 import random
+import select
 import signal
 import struct
 import subprocess
@@ -25,6 +25,7 @@ from checks.lib.measure import Ran
 PLAYER = Path(__file__).with_name("player.py")
 START = datetime(2026, 11, 2)       # as the player has it
 STILL, UNCLOSED, REFUSE = 10, 120, 600
+LONGEST = 120        # real seconds of a step
 TIMES = {"still": f"{STILL} s", "unclosed": f"{UNCLOSED} s", "refuse": f"{REFUSE} s",
          "silent": "4 h", "watch": "22:00-06:00"}
 CODES = ("S-0118", "S-118", "P-1", "P-10", "../x", "X", "rest", "rest-7", "a_b", "a/b", "1")
@@ -72,6 +73,7 @@ class Week:
         is_mended = chance.random() < 0.25
         tables = {it: {"mend": is_mended, "by_onset": chance.random() < 0.25} for it in names}
         self.clinic = Clinic(folder, programs, source, names, tables, **TIMES)
+        self.had_faults = False
         self.folder, self.beds = folder, [Bed(name) for name in names]
         self.truth = Truth(self.clinic.inboxes, self.clinic.data, self.clinic.nights, names)
         count = chance.choice((0, 1, 1, 2, 3))
@@ -81,29 +83,33 @@ class Week:
         self.said.append(f"{self.days} days of {names}, {tables}, {self.codes}: {self.faults}")
         self.outs = folder / "outs"
         self.clinic.make(self.outs, SERVICE, SERVICE, 0o755)
-        path = folder / "clock"
-        path.write_bytes(bytes(8 + 16 * len(names)))
-        os.chown(path, SERVICE, SERVICE)
-        with open(path, "r+b") as file:
-            self.memory = mmap.mmap(file.fileno(), 0)
+        self.pipes = {it.name: (*os.pipe(), *os.pipe()) for it in self.beds}
         self.player = subprocess.Popen(
-            [sys.executable, "-I", PLAYER, source, path, self.clinic.config, *names],
-            stdin=subprocess.PIPE, stdout=subprocess.PIPE, text=True, user=SERVICE, group=SERVICE,
+            [sys.executable, "-I", PLAYER, source, self.clinic.config],
+            stdin=subprocess.PIPE, stdout=subprocess.PIPE, user=SERVICE, group=SERVICE,
             extra_groups=[self.clinic.uploader(it) for it in names], cwd="/",
+            pass_fds=[fd for _, end, begin, _ in self.pipes.values() for fd in (begin, end)],
             env={"PATH": f"{programs}:/usr/bin:/bin", "LC_ALL": "C.UTF-8", "TZ": "UTC"})
 
     # How it runs.
 
     def ask(self, **given: Any) -> int:
+        """What the player answers. Who sleeps is woken while it is waited for."""
         assert self.player.stdin and self.player.stdout
-        self.player.stdin.write(json.dumps(given) + "\n")
+        self.player.stdin.write(json.dumps(given).encode() + b"\n")
         self.player.stdin.flush()
+        end = time.monotonic() + LONGEST
+        while not select.select([self.player.stdout], [], [], 0.03)[0]:
+            assert time.monotonic() < end, f"{given}: not within {LONGEST} s"
+            self.tick()
         return int(self.player.stdout.readline())
 
+    def begun(self, words: list[str], out: str, pipes: tuple[int, ...] = ()) -> int:
+        return self.ask(words=words, out=str(self.outs / out), clock=self.clock, pipes=pipes)
+
     def run(self, *words: Any) -> Ran:
-        out = self.outs / "command"
-        status = self.ask(wait=self.ask(words=list(map(str, words)), out=str(out)))
-        said = [Path(f"{out}.{it}").read_bytes() for it in ("out", "err")]
+        status = self.ask(wait=self.begun(list(map(str, words)), "command"))
+        said = [(self.outs / f"command.{it}").read_bytes() for it in ("out", "err")]
         self.said.append(f"{self.now():%d %H:%M:%S} {' '.join(map(str, words))}: {status}\n"
                          + b"".join(said).decode())
         assert status in (0, 1), f"{words}: status {status}"
@@ -113,52 +119,51 @@ class Week:
     def now(self) -> datetime:
         return START + timedelta(seconds=self.clock)
 
-    def slot(self, bed: Bed) -> tuple[float, float]:
-        return struct.unpack_from("dd", self.memory, 8 + 16 * self.beds.index(bed))
-
-    def wait(self, holds: Callable[[], bool], what: str) -> None:
-        end = time.monotonic() + 120
-        while not holds():
-            assert time.monotonic() < end, f"{what}: not within two minutes"
-            time.sleep(0.002)
+    def tick(self) -> None:
+        """Each receive wakes, sees the clock, and does what it does till it sleeps again."""
+        running = [self.pipes[bed.name] for bed in self.beds if bed.receiving]
+        for *_, wake in running:
+            os.write(wake, struct.pack("d", self.clock))
+        for slept, *_ in running:
+            assert select.select([slept], [], [], LONGEST)[0], "receive does not sleep"
+            os.read(slept, 1)
 
     def settle(self) -> None:
-        """Till each receive has its session, and waits for the clock."""
+        """Till each receive has its session again, and looked at its inbox."""
         for bed in self.beds:
             if bed.receiving:
                 with open(self.clinic.data / bed.name / "session.lock", "a+") as lock:
-                    self.wait(lambda: is_held(lock.fileno()), "its session")
-                before = self.slot(bed)[1]
-                self.wait(lambda: self.slot(bed)[1] > before + 1, "receive sleeps")
+                    while not is_held(lock.fileno()):
+                        self.tick()
 
     def advance(self, seconds: float) -> None:
-        for step in (2, seconds - 4, 2) if seconds > 6 else (seconds,):
+        for step in (2, seconds - 2) if seconds > 4 else (seconds,):
             self.clock += step
-            struct.pack_into("d", self.memory, 0, self.clock)
-            for bed in self.beds:
-                if bed.receiving:
-                    self.wait(lambda: self.slot(bed)[0] == self.clock, "receive sees the clock")
+            self.tick()
 
     def until(self, hour: float) -> None:
         """To the next such hour of a day."""
         self.advance((hour * 3600 - self.clock) % 86_400)
 
     def begin(self, bed: Bed) -> None:
-        bed.receiving = self.ask(words=["receive", bed.name], out=str(self.outs / bed.name))
-        bed.since = self.clock
-        lock = self.clinic.data / bed.name / "session.lock"
-        self.wait(lock.exists, "receive begins")
+        slept, end, begin, _ = self.pipes[bed.name]
+        number = self.begun(["receive", bed.name], bed.name, (end, begin))
+        bed.receiving, bed.since = number, self.clock
+        assert select.select([slept], [], [], LONGEST)[0], "receive does not begin"
+        os.read(slept, 1)
         self.settle()
 
     def end_of(self, bed: Bed, number: int = signal.SIGTERM) -> None:
         if bed.receiving:
-            os.kill(bed.receiving, number)
-            status = self.ask(wait=bed.receiving)
+            ending, bed.receiving = bed.receiving, 0
+            os.kill(ending, number)
+            if number == signal.SIGTERM:
+                os.write(self.pipes[bed.name][3], struct.pack("d", self.clock))
+            status = self.ask(wait=ending)
             assert status in (0, -signal.SIGKILL), f"receive: {status}"
             said = (self.outs / f"{bed.name}.err").read_text(errors="replace")
             self.said.append(f"receive of {bed.name} ended by {number}:\n{said}")
             assert MARK not in quoted_away(said), "an uploader's words stand without quotes"
-            bed.receiving = 0
             for it in bed.writers:
                 it.is_lost = it.is_lost or os.fstat(it.fd).st_nlink == 0
             self.drop_unknowable(bed)
@@ -177,7 +182,9 @@ class Week:
                 os.close(it.fd)
         assert self.player.stdin
         self.player.stdin.close()
-        self.player.wait(30)
+        self.player.wait(LONGEST)
+        for fd in (it for pipes in self.pipes.values() for it in pipes):
+            os.close(fd)
         self.clinic.end()
 
     # What recorders do.
@@ -253,8 +260,8 @@ class Week:
         for bed in self.beds:
             self.begin(bed)
         for day in range(self.days):
+            self.until(21.5)
             for bed in self.beds:
-                self.until(21.5)
                 self.evening(bed, day)
             self.until(7)
             for bed in self.beds:
@@ -291,7 +298,7 @@ class Week:
             if name in FAULTS and chance.random() < 0.6:
                 self.said.append(f"fault of {bed.name}: {name}")
                 FAULTS[name](self, bed, steps, numbers)
-                bed.is_clean = False
+                bed.is_clean, self.had_faults = False, True
         for step in steps:
             step()
             self.advance(chance.choice(PAUSES))
@@ -319,16 +326,17 @@ class Week:
         for name in self.faults:
             if name in CARDS and self.chance.random() < 0.6:
                 self.said.append(f"fault of {bed.name}: {name}")
-                bed.is_clean = False
+                bed.is_clean, self.had_faults = False, True
                 cards = CARDS[name](self, bed, cards)
         if "forgotten" in self.faults and self.chance.random() < 0.5:
-            bed.is_clean = False
+            bed.is_clean, self.had_faults = False, True
             bed.late = cards
             return
         self.advance(self.chance.choice(PAUSES))
-        self.morning(bed, cards)
+        status = self.morning(bed, cards)
         if self.chance.random() < 0.2:
-            self.morning(bed, cards)
+            bed.is_clean = bed.is_clean and status == 0
+            assert self.morning(bed, cards) <= status, "a second call finds what the first did not"
 
     def card(self, bed: Bed, night: Recording, data: bytes = b"",
              changed: dict[int, bytes] | None = None) -> Path:
@@ -344,9 +352,9 @@ class Week:
 
     # What must be so.
 
-    def morning(self, bed: Bed, cards: list[Path]) -> None:
+    def morning(self, bed: Bed, cards: list[Path]) -> int:
         truth, before = self.truth, self.truth.folders()
-        uploaded = truth.pending("taken")
+        uploaded = truth.pending("taken", bed=bed.name)
         came = truth.came[bed.name]
         given = [truth.known(it) for it in cards]
         for it in given:
@@ -365,14 +373,16 @@ class Week:
         truth.assert_owners()
         away, waits = truth.put_away(), truth.pending()
         kept = {it for writer in bed.writers for it in self.records(writer.night, writer.numbers)}
-        nowhere = missing - away - waits - bed.overwritten - kept
+        on_cards = {it for piece in given for it in piece.records}      # which their owner keeps
+        nowhere = missing - on_cards - away - waits - bed.overwritten - kept
         assert not nowhere, f"{len(nowhere)} data records came, and are nowhere"
         truth.came[bed.name] = missing & (waits | kept)
         bed.overwritten.clear()
         for folder in truth.folders():
             for path in folder.glob("report.txt"):
                 assert MARK not in quoted_away(path.read_text()), f"{path} has words of an uploader"
-        bed.is_clean = not bed.writers and not self.clinic.inbox(bed.name)
+        bed.is_clean = not bed.writers and not truth.pending(bed=bed.name)
+        return ran.status
 
     def assert_cards_are_of_tonight(self, given: list[Any], uploaded: set[bytes],
                                     status: int) -> None:
@@ -392,7 +402,7 @@ class Week:
             missing = truth.came[bed.name] - somewhere
             assert ran.status or not missing, \
                 f"{len(missing)} data records came, are in no night, and status is 0"
-        if all(bed.is_clean and bed.receiving for bed in self.beds):
+        if not self.had_faults and all(bed.receiving for bed in self.beds):
             assert not ran.status, "all is right, and status is 1"
 
     def nights(self) -> None:
@@ -467,7 +477,7 @@ def pauses(week: Week, bed: Bed, steps: Steps, numbers: Numbers) -> None:
     def begin() -> None:
         kind = week.chance.choice(("right", "right", "open", "all"))
         it = week.open_writer(bed, f"n{bed.night.start:%d%H%M}.edf", numbers[-1], kind)
-        week.write(bed, it, week.chance.randrange(1, len(numbers[-1])))
+        week.write(bed, it, week.chance.randrange(1, 1 + len(numbers[-1])))
         week.advance(week.chance.choice(PAUSES))
     steps.insert(week.chance.randrange(len(steps)), begin)
     if week.chance.random() < 0.7:
