@@ -70,7 +70,8 @@ class Truth:
     def raw(self, folder: Path) -> Iterator[tuple[Path, Piece]]:
         """The files of a folder that came: uploads and cards."""
         paths = [*folder.glob("taken/*.edf"), *folder.glob("refused/*.edf"),
-                 *folder.glob("card-*.edf")]
+                 *folder.glob("card-*.edf")] if (folder / "night.json").exists() else \
+            [it for it in folder.rglob("*.edf") if not it.name.startswith(("night", "pieces"))]
         yield from ((it, self.known(it)) for it in sorted(paths))
 
     def held(self) -> set[bytes]:

@@ -3,6 +3,7 @@ import fcntl
 import json
 import os
 import random
+import re
 import select
 import signal
 import struct
@@ -33,7 +34,7 @@ MARK = "MARK"       # in names, which must stand in quotes
 ODD = (f'a "b" {MARK}.edf', f"{MARK} accepted new=60 known=0", f"card {MARK}.EDF, here card-1.edf: "
        "all of it is put away; it may be erased if the paper agrees",
        f"{MARK}: nothing that came is missing: compare", f"look: call 555-0100 {MARK}")
-CLEAR = "nothing that came is missing", "may be erased"
+CLEAR = re.compile("nothing that came [^\n]*is missing|may be erased")
 PAUSES = (3, 20, 150, 700)
 
 
@@ -113,7 +114,8 @@ class Week:
         self.said.append(f"{self.now():%d %H:%M:%S} {' '.join(map(str, words))}: {status}\n"
                          + b"".join(said).decode())
         assert status in (0, 1), f"{words}: status {status}"
-        self.settle()
+        if words[0] == "morning":
+            self.settle()
         return Ran(status, said[0], said[1], 0.0)
 
     def now(self) -> datetime:
@@ -363,7 +365,7 @@ class Week:
         said = quoted_away(ran.out.decode())
         held = truth.held()
         missing = came - held
-        is_clear = ran.status == 0 or any(it in said for it in CLEAR)
+        is_clear = ran.status == 0 or bool(CLEAR.search(said))
         assert not (is_clear and missing), \
             f"{len(missing)} data records came, are in no night, and all is said to be right"
         assert MARK not in said, "an uploader's words stand without quotes"
@@ -422,9 +424,11 @@ class Week:
         for _ in range(self.chance.choice((0, 1, 2))):
             if there := self.truth.folders(False):
                 self.recode(self.chance.choice(there))
-        for code in self.chance.sample(CODES, len(CODES)):
+        owners = {owner for owner, _ in self.truth.belongings().values()}
+        codes = sorted(owners - {"", "X"}) + [self.chance.choice(CODES)]
+        for code in self.chance.sample(codes, len(codes)):
             self.forget(code)
-            assert self.run("verify").status == 0
+        assert self.run("verify").status == 0, "forget or recode leaves files without their sums"
 
     def recode(self, folder: Path) -> None:
         code = self.chance.choice([it for it in CODES if it != "X"])
@@ -444,8 +448,9 @@ class Week:
         if code == "X":
             return
         before = self.truth.belongings()
-        self.run("forget", code)
-        assert self.truth.belongings() == before, "forget lists, and changes something"
+        if self.chance.random() < 0.3:
+            self.run("forget", code)
+            assert self.truth.belongings() == before, "forget lists, and changes something"
         self.run("forget", code, "--yes")
         after = self.truth.belongings()
         stays = [path for path, (owner, _) in after.items() if owner == code]
