@@ -71,7 +71,6 @@ def play(given: dict[str, Any], config: str) -> int:
 def child(given: dict[str, Any], config: str) -> None:
     status: object = 1
     try:
-        os.setsid()
         status = play(given, config)
     except SystemExit as ended:
         status = ended.code or 0
