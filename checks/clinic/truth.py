@@ -11,6 +11,7 @@ from typing import Any
 
 from checks.clinic.recordings import Recording, codes_in, records_in
 
+NOBODY = "", "X"        # codes of files that may be anybody's
 Held = tuple[str, int]      # whose a data record is, and when it was
 
 
@@ -124,7 +125,7 @@ class Truth:
                 assert folder.parent.name == "replaced", f"{folder} has no night.json"
                 continue
             for path, piece in self.raw(folder):
-                assert piece.code in ("", told["patient"]), \
+                assert piece.code in (*NOBODY, told["patient"]), \
                     f"{path} is of {piece.code}, and lies in a night of {told['patient']}"
             for path in [*folder.glob("night.edf"), *folder.glob("pieces*.edf")]:
                 code = codes_in(path.read_bytes())

@@ -19,14 +19,14 @@ from typing import Any
 
 from checks.clinic.clinic import SERVICE, Clinic
 from checks.clinic.recordings import Recording
-from checks.clinic.truth import Truth, quoted_away
+from checks.clinic.truth import NOBODY, Truth, quoted_away
 from checks.lib.arguments import TOP
 from checks.lib.measure import Ran
 
 PLAYER = Path(__file__).with_name("player.py")
 START = datetime(2026, 11, 2)       # as the player has it
 STILL, UNCLOSED, REFUSE = 10, 120, 600
-LONGEST = 120        # real seconds of a step
+LONGEST = 900        # real seconds of a step
 TIMES = {"still": f"{STILL} s", "unclosed": f"{UNCLOSED} s", "refuse": f"{REFUSE} s",
          "silent": "4 h", "watch": "22:00-06:00"}
 CODES = ("S-0118", "S-118", "P-1", "P-10", "../x", "X", "rest", "rest-7", "a_b", "a/b", "1")
@@ -59,7 +59,6 @@ class Bed:
     night: Recording = Recording()
     writers: list[Writer] = field(default_factory=list)
     placed: dict[str, float] = field(default_factory=dict)
-    overwritten: set[bytes] = field(default_factory=set)
     late: list[Path] = field(default_factory=list)
     is_clean: bool = True       # since the last morning
     nothing: bool = True        # came since
@@ -201,9 +200,7 @@ class Week:
         if path.exists():       # written over by its uploader, maybe before anybody could see it
             before = self.truth.known(path)
             age = self.clock - max(bed.since, bed.placed.get(name, 0.0))
-            if bed.receiving and age > UNCLOSED + 10:
-                bed.overwritten |= before.records
-            else:
+            if not bed.receiving or age <= UNCLOSED + STILL:
                 path.unlink()
                 lost = before.records - self.truth.pending() - self.truth.put_away()
                 self.truth.came[bed.name] -= lost
@@ -368,6 +365,7 @@ class Week:
         is_clear = ran.status == 0 or bool(CLEAR.search(said))
         assert not (is_clear and missing), \
             f"{len(missing)} data records came, are in no night, and all is said to be right"
+        assert ran.status or bed.receiving, "receive does not run, and it is not said"
         assert MARK not in said, "an uploader's words stand without quotes"
         assert not (bed.is_clean and ran.status), "all is right, and it is not said"
         self.assert_cards_are_of_tonight(given, uploaded, ran.status)
@@ -376,10 +374,9 @@ class Week:
         away, waits = truth.put_away(), truth.pending()
         kept = {it for writer in bed.writers for it in self.records(writer.night, writer.numbers)}
         on_cards = {it for piece in given for it in piece.records}      # which their owner keeps
-        nowhere = missing - on_cards - away - waits - bed.overwritten - kept
+        nowhere = missing - on_cards - away - waits - kept
         assert not nowhere, f"{len(nowhere)} data records came, and are nowhere"
         truth.came[bed.name] = missing & (waits | kept)
-        bed.overwritten.clear()
         for folder in truth.folders():
             for path in folder.glob("report.txt"):
                 assert MARK not in quoted_away(path.read_text()), f"{path} has words of an uploader"
@@ -455,7 +452,7 @@ class Week:
         after = self.truth.belongings()
         stays = [path for path, (owner, _) in after.items() if owner == code]
         assert not stays, f"forget {code} leaves {stays}, which is of this patient"
-        others = Counter(data for owner, data in before.values() if owner not in ("", code))
+        others = Counter(data for owner, data in before.values() if owner not in (*NOBODY, code))
         lost = others - Counter(data for _, data in after.values())
         assert not lost, f"forget {code} removed what is of others: " + ", ".join(
             f"{path} of {owner}" for path, (owner, data) in before.items() if data in lost)
