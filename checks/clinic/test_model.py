@@ -18,6 +18,43 @@ from checks.lib.arguments import TOP
 
 WEEKS, LONG_WEEKS, SHOWN = 12, 300, 60
 TRIES = 8       # weeks in which a wrong one must be found
+# Of each: what it does, the changes of its sources, and the faults of the weeks that find it.
+WRONG: dict[str, tuple[list[tuple[str, str, str]], tuple[str, ...]]] = {
+    "believes that a name has come again": ([
+        ("giving.py", "resent = not lacks and self.has_all(file) if file.is_known else "
+         "line.file in self.came", "resent = True")], ("one name",)),
+    "does not look at the inbox": ([
+        ("morning.py", "waits = in_inbox(self.place)", "waits = []")], ("left",)),
+    "does not tell that receive is stopped": ([
+        ("morning.py", "if not is_receiving(self.place):", "if False:")], ("stopped",)),
+    "does not see that a writer goes on": ([
+        ("inbox.py", "if os.fstat(fd).st_ino == entry.key[0]:", "if False:")], ("pauses",)),
+    "gives a refused file to the first night": ([
+        ("giving.py", "own = own if own or file.code not in (\"\", \"X\") else self.parts",
+         "own = own or self.parts")], ("other person",)),
+    "forgets by folder": ([
+        ("forget.py", "*nights.sums(folder)} - {*rest, LOG, SUMS, WHOSE}",
+         "*nights.sums(folder)} - {LOG, SUMS, WHOSE}")], ("other person", "wrong piece")),
+    "lays each card with the first night": ([
+        ("giving.py", "        own = self.owners(file)\n        nth =",
+         "        own = self.parts[:1]\n        nth =")], ("other person", "other card")),
+    "says that a card may be erased whatever waits": ([
+        ("morning.py", "said = making.told(made, (), not self.looks)",
+         "said = making.told(made, (), True)")], ("left",)),
+    "drops what a late card has": ([
+        ("morning.py", "            if summed in known:\n",
+         "            if summed in known or known:\n"),
+        ("morning.py", "self.known.append((card.name, known[summed]))",
+         "self.known.append((card.name, [*known.values()][0]))")], ("late card",)),
+    "exports all but the last file": ([
+        ("plan.py", "            for file in given:\n                is_fit",
+         "            for file in given[:-1] or given:\n                is_fit")], ()),
+    "drops what was refused and is written over": ([
+        ("tonight.py", "if before and files.exists(old) and files.exists(path) and "
+         "begun_by([before], line, path):", "if before and files.exists(old):")], ("one name",)),
+    "recodes a night, and keeps the code in its files": ([
+        ("recode.py", "it, \"--set-patient\", code]", "it, \"--set-patient\", before[\"patient\"]]")],
+        ())}
 
 
 def played(seed: int, programs: Path, source: Path = TOP / "clinic",
@@ -43,3 +80,10 @@ def test_weeks_by_chance(programs: Path, is_long: bool, request: Any) -> None:
     with Pool(min(len(seeds), os.cpu_count() or 1)) as pool:
         failures = [it for it in pool.imap(partial(played, programs=programs), seeds) if it]
     assert not failures, f"{len(failures)} of {len(seeds)} weeks failed\n" + failures[0]
+
+
+@pytest.mark.parametrize("what", WRONG)
+def test_a_wrong_one_is_found(what: str, scratch: Path, programs: Path) -> None:
+    changes, faults = WRONG[what]
+    source = wrong_source(scratch, changes)
+    assert any(played(seed, programs, source, faults) for seed in range(TRIES))
