@@ -12,8 +12,10 @@ import json
 import os
 import signal
 import struct
+import subprocess
 import sys
 import time
+import types
 from datetime import datetime, timedelta, timezone
 from typing import Any
 
@@ -54,6 +56,8 @@ class Shown(datetime):
 def set_clocks() -> None:
     for name in ("monotonic", "localtime", "sleep"):
         setattr(time, name, getattr(CLOCK, name))
+    # Who waits for a program really sleeps.
+    setattr(subprocess, "time", types.SimpleNamespace(sleep=nap))
     setattr(importlib.import_module("edfclinic.text"), "datetime", Shown)
 
 
