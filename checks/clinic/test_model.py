@@ -42,8 +42,8 @@ WRONG: dict[str, tuple[list[tuple[str, str, str]], tuple[str, ...]]] = {
         ("morning.py", "said = making.told(made, (), not self.looks)",
          "said = making.told(made, (), True)")], ("left",)),
     "drops what a late card has": ([
-        ("morning.py", "            if summed in known:\n                self.known.append((card.name, "
-         "known[summed]))", "            if known:\n                self.known.append((card.name, "
+        ("morning.py", "            if summed in known:\n                self.known.append(("
+         "card.name, known[summed]))", "            if known:\n                self.known.append((card.name, "
          "[*known.values()][0]))")], ("late card",)),
     "exports all but the last file": ([
         ("plan.py", "            for file in given:\n                is_fit",
@@ -52,7 +52,8 @@ WRONG: dict[str, tuple[list[tuple[str, str, str]], tuple[str, ...]]] = {
         ("tonight.py", "if before and files.exists(old) and files.exists(path) and "
          "begun_by([before], line, path):", "if before and files.exists(old):")], ("one name",)),
     "recodes a night, and keeps the code in its files": ([
-        ("recode.py", "it, \"--set-patient\", code]", "it, \"--set-patient\", before[\"patient\"]]")],
+        ("recode.py", "it, \"--set-patient\", code]", "it, \"--set-patient\", "
+         "before[\"patient\"]]")],
         ())}
 
 

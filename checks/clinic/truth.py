@@ -97,7 +97,7 @@ class Truth:
         return json.loads(path.read_text()) if path.exists() else {}
 
     def belongings(self) -> dict[Path, tuple[str, bytes]]:
-        """Of each file of the archive that somebody sent or that has what they sent: whose it is."""
+        """Of each file that came, and each export of the archive: whose it is."""
         found = {}
         for folder in self.folders():
             told, chain = self.facts(folder).get("patient", ""), folder

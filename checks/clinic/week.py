@@ -1,5 +1,4 @@
 """A clinic by chance: recorders, their faults, their mornings, and what must be so after each."""
-import fcntl
 import json
 import os
 import random
@@ -7,64 +6,25 @@ import re
 import select
 import signal
 import struct
-import subprocess
-import sys
-import time
 from collections import Counter
-from collections.abc import Callable
-from dataclasses import dataclass, field
-from datetime import datetime, timedelta
+from datetime import timedelta
 from pathlib import Path
 from typing import Any
 
-from checks.clinic.clinic import SERVICE, Clinic
+from checks.clinic.clinic import Clinic
+from checks.clinic.faults import CARDS, CODES, FAULTS, MARK, PAUSES
 from checks.clinic.recordings import Recording
+from checks.clinic.running import LONGEST, START, Bed, Running, Writer
 from checks.clinic.truth import NOBODY, Truth, quoted_away
 from checks.lib.arguments import TOP
-from checks.lib.measure import Ran
 
-PLAYER = Path(__file__).with_name("player.py")
-START = datetime(2026, 11, 2)       # as the player has it
 STILL, UNCLOSED, REFUSE = 10, 120, 600
-LONGEST = 900        # real seconds of a step
 TIMES = {"still": f"{STILL} s", "unclosed": f"{UNCLOSED} s", "refuse": f"{REFUSE} s",
          "silent": "4 h", "watch": "22:00-06:00"}
-CODES = ("S-0118", "S-118", "P-1", "P-10", "../x", "X", "rest", "rest-7", "a_b", "a/b", "1")
-MARK = "MARK"       # in names, which must stand in quotes
-ODD = (f'a "b" {MARK}.edf', f"{MARK} accepted new=60 known=0", f"card {MARK}.EDF, here card-1.edf: "
-       "all of it is put away; it may be erased if the paper agrees",
-       f"{MARK}: nothing that came is missing: compare", f"look: call 555-0100 {MARK}")
 CLEAR = re.compile("nothing that came [^\n]*is missing|may be erased")
-PAUSES = (3, 20, 150, 700)
 
 
-@dataclass
-class Writer:
-    """A recorder that records onto the share: it keeps its file open."""
-    fd: int
-    night: Recording
-    numbers: list[int]
-    kind: str           # what the header counts meanwhile: all, what is there, or nothing (-1)
-    name: str
-    written: int = 0
-    is_lost: bool = False       # who took the file has ended, so nobody can know of more
-
-
-@dataclass
-class Bed:
-    name: str
-    receiving: int = 0
-    since: float = 0.0          # receive runs
-    nights: list[Recording] = field(default_factory=list)
-    night: Recording = Recording()
-    writers: list[Writer] = field(default_factory=list)
-    placed: dict[str, float] = field(default_factory=dict)
-    late: list[Path] = field(default_factory=list)
-    is_clean: bool = True       # since the last morning
-    nothing: bool = True        # came since
-
-
-class Week:
+class Week(Running):
     def __init__(self, seed: int, folder: Path, programs: Path, source: Path = TOP / "clinic",
                  faults: tuple[str, ...] | None = None, days: int = 0):
         self.chance, self.clock, self.said = random.Random(seed), 0.0, list[str]()
@@ -81,70 +41,7 @@ class Week:
         self.days = days or chance.choice((2, 3, 4))
         self.codes = chance.sample(CODES, chance.choice((2, 3, 4)))
         self.said.append(f"{self.days} days of {names}, {tables}, {self.codes}: {self.faults}")
-        self.outs = folder / "outs"
-        self.clinic.make(self.outs, SERVICE, SERVICE, 0o755)
-        self.pipes = {it.name: (*os.pipe(), *os.pipe()) for it in self.beds}
-        self.player = subprocess.Popen(
-            [sys.executable, "-I", PLAYER, source, self.clinic.config],
-            stdin=subprocess.PIPE, stdout=subprocess.PIPE, user=SERVICE, group=SERVICE,
-            extra_groups=[self.clinic.uploader(it) for it in names], cwd="/",
-            pass_fds=[fd for _, end, begin, _ in self.pipes.values() for fd in (begin, end)],
-            env={"PATH": f"{programs}:/usr/bin:/bin", "LC_ALL": "C.UTF-8", "TZ": "UTC"})
-
-    # How it runs.
-
-    def ask(self, **given: Any) -> int:
-        """What the player answers. Who sleeps is woken while it is waited for."""
-        assert self.player.stdin and self.player.stdout
-        self.player.stdin.write(json.dumps(given).encode() + b"\n")
-        self.player.stdin.flush()
-        end = time.monotonic() + LONGEST
-        while not select.select([self.player.stdout], [], [], 0.03)[0]:
-            assert time.monotonic() < end, f"{given}: not within {LONGEST} s"
-            self.tick()
-        return int(self.player.stdout.readline())
-
-    def begun(self, words: list[str], out: str, pipes: tuple[int, ...] = ()) -> int:
-        return self.ask(words=words, out=str(self.outs / out), clock=self.clock, pipes=pipes)
-
-    def run(self, *words: Any) -> Ran:
-        status = self.ask(wait=self.begun(list(map(str, words)), "command"))
-        said = [(self.outs / f"command.{it}").read_bytes() for it in ("out", "err")]
-        self.said.append(f"{self.now():%d %H:%M:%S} {' '.join(map(str, words))}: {status}\n"
-                         + b"".join(said).decode())
-        assert status in (0, 1), f"{words}: status {status}"
-        if words[0] == "morning":
-            self.settle()
-        return Ran(status, said[0], said[1], 0.0)
-
-    def now(self) -> datetime:
-        return START + timedelta(seconds=self.clock)
-
-    def tick(self) -> None:
-        """Each receive wakes, sees the clock, and does what it does till it sleeps again."""
-        running = [self.pipes[bed.name] for bed in self.beds if bed.receiving]
-        for *_, wake in running:
-            os.write(wake, struct.pack("d", self.clock))
-        for slept, *_ in running:
-            assert select.select([slept], [], [], LONGEST)[0], "receive does not sleep"
-            os.read(slept, 1)
-
-    def settle(self) -> None:
-        """Till each receive has its session again, and looked at its inbox."""
-        for bed in self.beds:
-            if bed.receiving:
-                with open(self.clinic.data / bed.name / "session.lock", "a+") as lock:
-                    while not is_held(lock.fileno()):
-                        self.tick()
-
-    def advance(self, seconds: float) -> None:
-        for step in (2, seconds - 2) if seconds > 4 else (seconds,):
-            self.clock += step
-            self.tick()
-
-    def until(self, hour: float) -> None:
-        """To the next such hour of a day."""
-        self.advance((hour * 3600 - self.clock) % 86_400)
+        self.play_it(source, programs)
 
     def begin(self, bed: Bed) -> None:
         slept, end, begin, _ = self.pipes[bed.name]
@@ -407,7 +304,7 @@ class Week:
     def nights(self) -> None:
         ran = self.run("nights")
         missing = self.truth.put_away() - self.truth.held()
-        assert ran.status or not missing, f"nights is 0, and {len(missing)} data records are in none"
+        assert ran.status or not missing, f"nights is 0, and lacks {len(missing)} data records"
         shared = [(one, two) for one in self.truth.folders(False) for two in
                   self.truth.folders(False) if one < two and one.parent == two.parent]
         for one, two in shared:
@@ -456,160 +353,3 @@ class Week:
         lost = others - Counter(data for _, data in after.values())
         assert not lost, f"forget {code} removed what is of others: " + ", ".join(
             f"{path} of {owner}" for path, (owner, data) in before.items() if data in lost)
-
-
-Steps = list[Callable[[], object]]
-Numbers = list[list[int]]
-Cards = list[Path]
-
-
-def is_held(fd: int) -> bool:
-    try:
-        fcntl.flock(fd, fcntl.LOCK_SH | fcntl.LOCK_NB)
-    except BlockingIOError:
-        return True
-    fcntl.flock(fd, fcntl.LOCK_UN)
-    return False
-
-
-# Faults of an evening: each changes its steps. Of cards: each has the cards of a morning.
-
-def pauses(week: Week, bed: Bed, steps: Steps, numbers: Numbers) -> None:
-    """A recorder that records onto the share pauses longer than receive waits."""
-    def begin() -> None:
-        kind = week.chance.choice(("right", "right", "open", "all"))
-        it = week.open_writer(bed, f"n{bed.night.start:%d%H%M}.edf", numbers[-1], kind)
-        week.write(bed, it, week.chance.randrange(1, 1 + len(numbers[-1])))
-        week.advance(week.chance.choice(PAUSES))
-    steps.insert(week.chance.randrange(len(steps)), begin)
-    if week.chance.random() < 0.7:
-        steps.append(lambda: [week.end_writer(bed, it) for it in list(bed.writers)])
-
-
-def one_name(week: Week, bed: Bed, steps: Steps, numbers: Numbers) -> None:
-    """Each piece has the same name, and one of them is damaged."""
-    wrong = week.chance.randrange(len(numbers))
-    steps[:] = [lambda nth=nth, part=part: damaged(week, bed, "CURRENT.EDF", part, nth == wrong)
-                for nth, part in enumerate(numbers)]
-
-
-def damaged(week: Week, bed: Bed, name: str, part: list[int], is_wrong: bool = True) -> None:
-    """Cut, of another date in its head, or with another sample in a data record."""
-    data, changed = bed.night.piece(part[0], part[-1] + 1), {}
-    kind = week.chance.choice(("cut", "half", "head", "sample", "overlaps")) if is_wrong else ""
-    if kind == "cut":
-        data = data[:-week.chance.randrange(1, 9)]
-    elif kind == "half":
-        data = data[:week.chance.randrange(200, len(data))]
-    elif kind == "head":
-        data = data[:168] + data[168:176].replace(b".", b"/") + data[176:]
-    elif kind == "sample":
-        changed = {part[0]: week.flipped(bed.night, part[0])}
-        data = bed.night.piece(part[0], part[-1] + 1, changed=changed)
-    elif kind == "overlaps":        # it begins with a data record that came otherwise
-        before = max(0, part[0] - 1)
-        part, changed = [before, *part], {before: week.flipped(bed.night, before)}
-        data = bed.night.piece(before, part[-1] + 1, changed=changed)
-    week.put(bed, name, data, bed.night, part, changed)
-
-
-def wrong_piece(week: Week, bed: Bed, steps: Steps, numbers: Numbers) -> None:
-    """A piece comes damaged, and sometimes whole once more; or just before the morning."""
-    nth = week.chance.randrange(len(numbers))
-    name = week.chance.choice((f"piece{nth}.edf", *ODD))
-    at = week.chance.choice((week.chance.randrange(len(steps) + 1), len(steps)))
-    steps.insert(at, lambda: damaged(week, bed, name, numbers[nth]))
-    if week.chance.random() < 0.5:
-        steps.pop(week.chance.randrange(len(steps)))
-    elif week.chance.random() < 0.5:
-        steps.append(lambda: damaged(week, bed, name, numbers[nth], False))
-
-
-def stopped(week: Week, bed: Bed, steps: Steps, _: Numbers) -> None:
-    """receive ends, and maybe nobody starts it again before the morning."""
-    at = week.chance.randrange(len(steps) + 1)
-    steps.insert(at, lambda: week.end_of(bed, week.chance.choice((signal.SIGTERM, signal.SIGKILL))))
-    if week.chance.random() < 0.5:
-        steps.insert(week.chance.randrange(at + 1, len(steps) + 1), lambda: week.begin(bed))
-
-
-def other_person(week: Week, bed: Bed, steps: Steps, _: Numbers) -> None:
-    """A file of another person, whole or not, mostly the only one of theirs."""
-    code = week.chance.choice([it for it in CODES if it != bed.night.patient.split()[0]])
-    start = bed.night.start + timedelta(hours=week.chance.choice((-3, 0, 2)))
-    night = bed.night.later(patient=f"{code} X X X", seed=f"{bed.night.seed} {code}", start=start)
-
-    def send() -> None:
-        data = night.piece(0, 9)[:week.chance.choice((None, -3, -3))]
-        week.put(bed, "other.edf", data, night, list(range(9)))
-    steps.insert(week.chance.randrange(len(steps) + 1), send)
-
-
-def other_night(week: Week, bed: Bed, steps: Steps, _: Numbers) -> None:
-    """A piece of an earlier night comes, for the first time or again."""
-    night = week.chance.choice(bed.nights)
-    end = week.chance.randrange(1, night.records)
-    steps.append(lambda: week.put(bed, "again.edf", night.piece(0, end), night, list(range(end))))
-
-
-def mistyped(week: Week, bed: Bed, steps: Steps, numbers: Numbers) -> None:
-    """The code is corrected during the night."""
-    whole, code = bed.night, week.chance.choice(CODES)
-    other = whole.later(patient=f"{code} X X X", seed=f"{whole.seed} {code}")
-    steps.insert(len(steps) // 2, lambda: setattr(bed, "night", other))
-
-
-def set_back(week: Week, bed: Bed, steps: Steps, numbers: Numbers) -> None:
-    """The recorder's clock is set back: what comes overlaps what came."""
-    seconds = week.chance.choice((20, 120, 600))
-    night = bed.night.later(start=bed.night.start - timedelta(seconds=seconds),
-                            seed=f"{bed.night.seed} back")
-    part = numbers[-1]
-    name = week.chance.choice(("back.edf", f"{bed.night.start:%d%H%M}-00.edf"))
-    steps.append(lambda: week.put(bed, name, night.piece(part[0], part[-1] + 1), night, part))
-
-
-def left_alone(week: Week, bed: Bed, steps: Steps, numbers: Numbers) -> None:
-    """A file that its uploader lets nobody read."""
-    part = numbers[0]
-    steps.append(lambda: week.put(bed, "left.edf", bed.night.piece(0, part[-1] + 1), bed.night,
-                                  part).chmod(0o600))
-
-
-def nothing(week: Week, bed: Bed, steps: Steps, _: Numbers) -> None:
-    steps.clear()
-
-
-def late_card(week: Week, bed: Bed, cards: Cards) -> Cards:
-    """It comes with a later morning, or with one of its own."""
-    bed.late, given = [week.card(bed, bed.night)], bed.late
-    return given
-
-
-def wrong_card(week: Week, bed: Bed, cards: Cards) -> Cards:
-    kind, night = week.chance.choice(("flipped", "cut", "junk", "two")), bed.night
-    if kind == "flipped":
-        nth = week.chance.randrange(night.records)
-        return [week.card(bed, night, changed={nth: week.flipped(night, nth)})]
-    data = {"cut": night.piece()[:-5], "junk": b"no card", "two": b""}[kind]
-    return [week.card(bed, night, data), *cards]
-
-
-def other_card(week: Week, bed: Bed, _: Cards) -> Cards:
-    """Of another night, of another recorder's, of two persons."""
-    other = week.chance.choice(week.chance.choice(week.beds).nights)
-    given = [week.card(bed, other)]
-    return given + [week.card(bed, bed.night)] * week.chance.choice((0, 1))
-
-
-def forgotten(week: Week, bed: Bed, cards: Cards) -> Cards:
-    return cards
-
-
-FAULTS: dict[str, Callable[[Week, Bed, Steps, Numbers], None]] = {
-    "pauses": pauses, "one name": one_name, "wrong piece": wrong_piece, "stopped": stopped,
-    "other person": other_person, "other night": other_night, "mistyped": mistyped,
-    "set back": set_back, "left": left_alone, "nothing": nothing}
-CARDS: dict[str, Callable[[Week, Bed, Cards], Cards]] = {
-    "late card": late_card, "wrong card": wrong_card, "other card": other_card,
-    "forgotten": forgotten}
