@@ -42,9 +42,10 @@ WRONG: dict[str, tuple[list[tuple[str, str, str]], tuple[str, ...]]] = {
         ("morning.py", "said = making.told(made, (), not self.looks)",
          "said = making.told(made, (), True)")], ("left",)),
     "drops what a late card has": ([
-        ("morning.py", "            if summed in known:\n                self.known.append(("
-         "card.name, known[summed]))", "            if known:\n                self.known.append((card.name, "
-         "[*known.values()][0]))")], ("late card",)),
+        ("morning.py", "            if summed in known:\n"
+         "                self.known.append((card.name, known[summed]))",
+         "            if known:\n"
+         "                self.known.append((card.name, [*known.values()][0]))")], ("late card",)),
     "exports all but the last file": ([
         ("plan.py", "            for file in given:\n                is_fit",
          "            for file in given[:-1] or given:\n                is_fit")], ()),
