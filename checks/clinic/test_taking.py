@@ -88,6 +88,24 @@ def test_a_refused_file_waits_till_it_changes_and_then_is_refused_for_good(clini
         ["junk.edf", "refused E1 Cut", "6", sums[1]]][::way] for way in (1, -1)]
 
 
+def test_what_is_refused_and_waits_when_the_morning_comes_leaves_the_inbox(clinic: Clinic) -> None:
+    clinic.write_config({}, refuse="20 s")
+    child, cut = clinic.receive(), NIGHT.piece(20, 40)[:-5]
+    clinic.put("a.edf", NIGHT.piece(0, 20))
+    clinic.put("cut.edf", cut)
+    clinic.until(lambda: len(clinic.log()) == 2, "two answers")
+    clinic.done("morning", "r01", status=1, alone=True)
+    assert clinic.inbox() == ["cut.edf"]
+    clinic.until_taken()
+    clinic.until(lambda: clinic.told().get("waiting_count") == 0, "nothing waits")
+    assert clinic.log() == []       # it was told in the night before, which has it
+    assert [it.read_bytes() for it in (clinic.archive()[0] / "refused").iterdir()] == [cut]
+    clinic.put("b.edf", NIGHT.later(start=NIGHT.at(2_880)).piece())
+    clinic.until_taken()
+    clinic.done("morning", "r01", alone=True)
+    clinic.stop(child)
+
+
 def test_a_larger_file_is_left_and_a_full_night_takes_no_more(clinic: Clinic) -> None:
     size = len(NIGHT.piece())
     clinic.write_config({}, largest_file=f"{size} B", largest_night=f"{2 * size} B")

@@ -45,12 +45,12 @@ def copy(fd: int, key: Key, target: str) -> str:
 class Seen:
     key: Key
     since: float
-    line: Line | None = None    # of the last contents of this name that were answered
+    line: Line | None = None    # of the last contents of this name that tonight has answered
     answer: str = ""
     is_refused: bool = False    # as it is now: it waits, and then is taken out
     not_before: float = 0.0
     full: str = ""              # which room it wants
-    is_kept: bool = False       # but still in the inbox
+    kept: Line | None = None    # of these contents, which are kept, but still in the inbox
 
 
 @dataclass
@@ -123,7 +123,7 @@ class Inbox:
 
     def begin(self) -> None:
         """Another night: what the one before kept is not taken again."""
-        self.seen = {name: it for name, it in self.seen.items() if it.is_kept}
+        self.seen = {name: it for name, it in self.seen.items() if it.kept}
         for it in [*self.seen.values(), *(of.seen for of in self.taken_out)]:
             it.line, it.full, it.not_before = None, "", 0.0
 
@@ -175,8 +175,8 @@ class Inbox:
         with suppress(OSError):     # a lease, or no permission
             fd = os.open(ASIDE, files.READ, dir_fd=folder)
             if os.fstat(fd).st_ino == entry.key[0]:
-                self.taken_out.append(TakenOut(entry.name, fd, line,
-                                               Seen(entry.key, time.monotonic(), line)))
+                seen = Seen(entry.key, time.monotonic(), self.seen[entry.name].line)
+                self.taken_out.append(TakenOut(entry.name, fd, line, seen))
             else:
                 os.close(fd)
 

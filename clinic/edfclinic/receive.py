@@ -51,16 +51,16 @@ class Taking:
     def try_to_take(self, entry: Entry, seen: Seen) -> None:
         try:
             unclosed = seen.since + self.config.unclosed
-            if not seen.is_kept and time.monotonic() < unclosed and self.inbox.is_unclosed(entry):
+            if not seen.kept and time.monotonic() < unclosed and self.inbox.is_unclosed(entry):
                 seen.not_before = unclosed
                 return
-            if not seen.is_kept:
+            if not seen.kept:
                 seen.line = self.take(entry.name, seen, lambda to: self.inbox.copy(entry, to))
-                seen.is_kept, seen.is_refused = True, not accepted(seen.line.answer)
+                seen.kept, seen.is_refused = seen.line, not accepted(seen.line.answer)
                 seen.answer = seen.line.answer if seen.is_refused else ""
             waits = seen.is_refused and time.monotonic() - seen.since < self.config.refuse
-            if seen.line and not waits:
-                self.inbox.take_out(entry, seen.line)
+            if not waits:
+                self.inbox.take_out(entry, seen.kept)
                 self.inbox.seen.pop(entry.name)
         except Later as why:
             self.inbox.seen[entry.name] = Seen(seen.key, time.monotonic(), seen.line)
