@@ -273,6 +273,7 @@ def test_a_file_that_grows_and_one_that_changes_under_the_copy(clinic: Clinic) -
 def test_many_tiny_files_delay_no_other_recorder(clinic: Clinic, is_long: bool) -> None:
     clinic.write_config({}, refuse="60 s")
     count = 100_000 if is_long else TINY
+    share = max(1, clinic.run("status").seconds)        # other work may have the processors
 
     def flood() -> None:
         for nth in range(count):
@@ -282,13 +283,13 @@ def test_many_tiny_files_delay_no_other_recorder(clinic: Clinic, is_long: bool) 
     clinic.until(lambda: clinic.told().get("waiting_count", 0) > 20, "some wait", 120)
     for nth in range(5):
         clinic.put(f"{nth}.edf", NIGHT.piece(), "r02")
-        assert clinic.until(lambda: not clinic.inbox("r02"), "r02", 20) < 10
+        assert clinic.until(lambda: not clinic.inbox("r02"), "r02") < 10 * share
     told = clinic.told()
     assert len(told["waiting"]) == 20 and len(told["refused"]) <= 20
-    assert clinic.run("status").seconds < 5
+    assert clinic.run("status").seconds < 5 * share
     begun = time.monotonic()
     clinic.done("morning", "r02")
-    assert time.monotonic() - begun < 20
+    assert time.monotonic() - begun < 20 * share
     for it in receiving:
         clinic.stop(it)
 
