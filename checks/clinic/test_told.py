@@ -48,8 +48,8 @@ def test_what_waits_is_told_and_a_receive_that_does_not_run(clinic: Clinic) -> N
     card = clinic.card(NIGHT.piece())
     said = clinic.done("morning", "r01", "--card", card, alone=True, status=1)
     assert "look: receive does not run: systemctl start edfclinic-receive@r01\n" in said
-    assert "look: 3 files wait in its inbox and are in no night: file \"c.part\", file " \
-        "\"part1.edf\", file \"x\\x22\\x0a.edf\": call again in 10 minutes" in said
+    assert "look: 3 files wait in its inbox and are in no night of this morning: file " \
+        "\"c.part\", file \"part1.edf\", file \"x\\x22\\x0a.edf\": call again in 10 minutes" in said
     assert CLEAR not in said and ERASED not in said and "keep it till" in said
     assert "3 files were in its inbox" in str(facts(clinic.archive()[0])["look"])
     assert CLEAR not in (clinic.archive()[0] / "report.txt").read_text()

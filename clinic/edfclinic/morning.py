@@ -101,8 +101,9 @@ class Morning:
             self.looks.append(f"its inbox can't be read, {why.strerror}: ask the engineer")
         if files.exists(self.place.morning):
             since = files.names(join(self.place.tonight, TAKEN))
-        self.looks += [f"{len(waits)} files wait in its inbox and are in no night: {shown(waits)}: "
-                       "call again in 10 minutes; if they stay, ask the engineer"] * bool(waits)
+        self.looks += [f"{len(waits)} files wait in its inbox and are in no night of this morning: "
+                       f"{shown(waits)}: call again in 10 minutes; if they stay, ask the engineer"
+                       ] * bool(waits)
         self.looks += [f"{len(since)} files are of the next night: call again"] * bool(since)
         self.waiting = len(waits) + len(since)
 
