@@ -44,7 +44,6 @@ class Bed:
     placed: dict[str, float] = field(default_factory=dict)
     late: list[Path] = field(default_factory=list)
     is_clean: bool = True       # since the last morning
-    nothing: bool = True        # came since
 
 
 class Running:

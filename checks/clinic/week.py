@@ -107,7 +107,6 @@ class Week(Running):
         self.truth.came[bed.name] |= piece.records
         self.said.append(f"{self.now():%d %H:%M:%S} {bed.name} gets {name}: {piece.code}, "
                          f"{len(piece.records)} of {numbers[:1]} to {numbers[-1:]}")
-        bed.nothing = False
         return path
 
     def stamp(self, path: Path | int) -> None:
@@ -138,7 +137,6 @@ class Week(Running):
             self.truth.came[bed.name] |= piece.records
         self.said.append(f"{self.now():%d %H:%M:%S} {bed.name} writes {it.name}: {it.written} of "
                          f"{len(it.numbers)}, count {told}{', which was taken' * is_away}")
-        bed.nothing = False
         self.advance(2)
 
     def end_writer(self, bed: Bed, it: Writer) -> None:
