@@ -250,6 +250,8 @@ def test_leases_and_locks_keep_nobody_waiting(clinic: Clinic) -> None:
 
 
 def test_a_file_that_grows_and_one_that_changes_under_the_copy(clinic: Clinic) -> None:
+    clinic.write_config({}, still="2 s")        # for so long its writer may be kept waiting
+
     def grow() -> None:
         fd = os.open("grows.edf", os.O_RDWR | os.O_CREAT, 0o640)
         os.write(fd, NIGHT.piece())
