@@ -121,7 +121,8 @@ def set_back(week: Week, bed: Bed, steps: Steps, numbers: Numbers) -> None:
 def left_alone(week: Week, bed: Bed, steps: Steps, numbers: Numbers) -> None:
     """A file that its uploader lets nobody read."""
     part = numbers[0]
-    steps.append(lambda: week.put(bed, "left.edf", bed.night.piece(0, part[-1] + 1), bed.night,
+    name = f"left{bed.night.start:%d}.edf"      # nobody could know of one that is written over
+    steps.append(lambda: week.put(bed, name, bed.night.piece(0, part[-1] + 1), bed.night,
                                   part).chmod(0o600))
 
 
