@@ -171,6 +171,9 @@ class Morning:
 
     def put_away(self, plan: dict[str, Any]) -> int:
         looks = []
+        for rest in plan["rest"]:
+            making.make(self.place, rest)
+            self.looks += rest["facts"]["look"]
         for night in plan["nights"]:
             made = making.make(self.place, night)
             folder = join(self.place.archive, made["night"])
@@ -178,9 +181,6 @@ class Morning:
             said += [f"report: {join(folder, nights.REPORT)}"] if made["look"] else []
             print("\n  ".join(said))
             looks += made["look"]
-        for rest in plan["rest"]:
-            making.make(self.place, rest)
-            self.looks += rest["facts"]["look"]
         files.rename(self.place.morning, self.gone)
         files.remove_tree(self.gone)
         return LOOK if looks else DONE
