@@ -1,12 +1,15 @@
 """A clinic in a folder: its three trees, a service's user, uploaders, and edfclinic as they call
 it. Waits are scaled: what takes minutes in a clinic takes tenths of a second here."""
+import fcntl
 import json
 import os
 import signal
 import subprocess
 import sys
+import threading
 import time
-from collections.abc import Callable
+from collections.abc import Callable, Iterator
+from contextlib import contextmanager, nullcontext
 from pathlib import Path
 from typing import Any
 
@@ -83,9 +86,40 @@ class Clinic:
         self.running.remove(child)
         return Ran(child.returncode, out, err, time.monotonic() - begun)
 
-    def done(self, *words: Any, status: int = 0, **options: Any) -> str:
-        """The same; it must end with this status."""
-        ran = self.run(*words, **options)
+    @contextmanager
+    def attended(self, recorder: str) -> Iterator[None]:
+        """As where a receive runs that takes nothing: it has the lock of its session, and gives it
+        up as long as another has `wanted`."""
+        if not (self.data / recorder).exists():
+            self.make(self.data / recorder, SERVICE, SERVICE, 0o750)
+        session, wanted = (os.open(self.data / recorder / name, os.O_RDWR | os.O_CREAT, 0o600)
+                           for name in ("session.lock", "wanted.lock"))
+        ended = threading.Event()
+
+        def attend() -> None:
+            while not ended.wait(0.01):
+                try:
+                    fcntl.flock(wanted, fcntl.LOCK_SH | fcntl.LOCK_NB)
+                    fcntl.flock(session, fcntl.LOCK_EX | fcntl.LOCK_NB)
+                except BlockingIOError:
+                    fcntl.flock(session, fcntl.LOCK_UN)
+                fcntl.flock(wanted, fcntl.LOCK_UN)
+        for fd in (session, wanted):
+            os.chown(fd, SERVICE, SERVICE)
+        thread = threading.Thread(target=attend)
+        thread.start()
+        yield
+        ended.set()
+        thread.join()
+        os.close(session)
+        os.close(wanted)
+
+    def done(self, *words: Any, status: int = 0, alone: bool = False, **options: Any) -> str:
+        """The same; it must end with this status. While a morning runs a receive does, unless this
+        is alone."""
+        is_attended = words[0] == "morning" and len(words) > 1 and not alone
+        with self.attended(words[1]) if is_attended else nullcontext():
+            ran = self.run(*words, **options)
         assert ran.status == status, f"{words}: {ran}"
         return ran.out.decode()
 
@@ -166,7 +200,7 @@ class Clinic:
     def log(self, recorder: str = "r01", folder: str = "tonight") -> list[list[str]]:
         """The lines of the log, as lists of their fields."""
         path = self.data / recorder / folder / "answers.log"
-        return [line.split("\t") for line in path.read_text().splitlines()]
+        return [line.split("\t") for line in path.read_text().splitlines()] if path.exists() else []
 
     def archive(self, recorder: str = "r01") -> list[Path]:
         """The folders of its nights, by their names."""

@@ -19,6 +19,7 @@ def pytest_addoption(parser: Any) -> None:
                         help=f"{name}; the one of PATH, else the one that bin/{name} runs")
     group.addoption("--bare", metavar="FOLDER", help="a Debian for test_real.py")
     group.addoption("--packages", metavar="FOLDER", help="the packages for test_real.py")
+    group.addoption("--seed", type=int, metavar="N", help="this week of the model")
     group.addoption("--long", action="store_true", help="the counts of docs/EVIDENCE.md")
 
 

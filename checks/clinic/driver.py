@@ -7,6 +7,7 @@ HOW is JSON: `kill` [N, "before" or "behind"]; `fail` [N, NUMBER of the error]; 
 gets a line for each such call. A call of a program counts as one, too. `exchange` [NAME, OTHER]:
 while NAME is opened, and only then, it is the other file. `set` has other values of constants, as
 {"programs.MOST_RUNS": 10}; `clock` is a file with the seconds by which the host's clock is set on.
+`over` [NAME, OTHER]: before NAME is removed or gets another name, OTHER is renamed over it.
 """
 import ctypes
 import json
@@ -97,12 +98,24 @@ def exchange(name: str, other: str) -> None:
     setattr(os, "open", opened)
 
 
+def rename_over(name: str, other: str) -> None:
+    rename = os.rename
+    for call in ("rename", "unlink"):
+        def called(path: Any, *words: Any, own: Any = getattr(os, call), **options: Any) -> Any:
+            folder = options.get("src_dir_fd", options.get("dir_fd"))
+            if path == name and folder is not None and other in os.listdir(folder):
+                rename(other, name, src_dir_fd=folder, dst_dir_fd=folder)
+            return own(path, *words, **options)
+        setattr(os, call, called)
+
+
 def main() -> None:
     source, how = sys.argv[1], json.loads(sys.argv[2])
     sys.argv = ["edfclinic", *sys.argv[3:]]
     sys.path.insert(0, source)
     sys.dont_write_bytecode = True
-    from edfclinic import __main__, receive     # type: ignore[import]
+    from edfclinic import __main__, morning, receive   # type: ignore[import]
+    morning.RUNS = 0.3
     receive.TICK, receive.RESTART, receive.AGAIN = how.get("tick", 0.05), 0.2, 0.3
     for name, value in how.get("set", {}).items():
         module, _, key = name.partition(".")
@@ -111,6 +124,8 @@ def main() -> None:
         shift(how["clock"])
     if "exchange" in how:
         exchange(*how["exchange"])
+    if "over" in how:
+        rename_over(*how["over"])
     if how.keys() & {"kill", "fail", "calls"}:
         Counter(how).watch()
     sys.exit(__main__.main())

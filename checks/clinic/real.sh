@@ -41,7 +41,7 @@ fails "sftp does not leave the inboxes" "${sftp[@]}" <<<'get /../etc/passwd'
 fails "sftp does not list another inbox" "${sftp[@]}" <<<'ls /r02/'
 fails "sftp does not rename its inbox" "${sftp[@]}" <<<'rename /r01 /r09'
 says "sftp plants a link" "${sftp[@]}" <<<'symlink /etc/shadow link.edf'
-says "the link is left and told" holds 'edfclinic status | grep -q "left: link.edf is a link"'
+says "the link is left and told" holds 'edfclinic status | grep -q "left: file .link.edf.: is a link"'
 fails "no shell" "${ssh[@]}" id
 ssh-keygen -q -t ed25519 -N '' -f own <<<y
 "${sftp[@]}" <<<$'mkdir .ssh\nput own.pub .ssh/authorized_keys' >out 2>&1

@@ -30,7 +30,7 @@ def archive(clinic: Clinic) -> Clinic:
 
 def test_nights_lists_what_each_night_tells(archive: Clinic) -> None:
     listed = json.loads(archive.done("nights", "--json", status=1))
-    assert [{key: it[key] for key in it if key != "folder"} for it in listed] \
+    assert [{key: it[key] for key in it if key not in ("folder", "seen")} for it in listed] \
         == [facts(night) for night in archive.archive()]
     assert [it["folder"] for it in listed] == [str(it) for it in archive.archive()]
     assert archive.done("nights", status=1).splitlines()[1] == \
@@ -139,8 +139,7 @@ def test_forget_by_half_a_code_or_none_removes_nothing(archive: Clinic) -> None:
     assert archive.done("forget", "S-9999", "--yes") == "" and tree(archive.nights) == before
 
 
-def test_forget_finds_a_card_that_lies_in_anothers_night(clinic: Clinic) -> None:
-    """Two patients of one morning: the card of the second lies with the first night."""
+def test_forget_finds_the_card_of_the_second_of_two_patients(clinic: Clinic) -> None:
     other = MEND.later(start=datetime(2026, 11, 26, 23, 0))
     clinic.night_took({"a.edf": NIGHT.piece(), "b.edf": other.piece(0, 40)})
     clinic.done("morning", "r01", "--card", clinic.card(other.piece()), status=1)
@@ -155,8 +154,7 @@ OTHER = MEND.later(start=datetime(2026, 11, 26, 23, 0))
 
 
 def two_patients(clinic: Clinic) -> None:
-    """Two patients of one morning: what came of the second lies with the night of the first, but
-    what it sent; and files that nobody knows whose they are."""
+    """Two patients of one morning, and a file of which nobody knows whose it is."""
     clinic.night_took({"a.edf": NIGHT.piece(), "S-0118.edf": NIGHT.piece()[:-3],
                        "b.edf": OTHER.piece(0, 40), "S-0119.edf": OTHER.piece(40)[:-3],
                        "junk.edf": b"no EDF"})
@@ -173,23 +171,20 @@ def trace(clinic: Clinic, code: str) -> list[str]:
 
 def test_forget_of_the_first_patient_leaves_what_is_the_seconds(clinic: Clinic) -> None:
     two_patients(clinic)
-    card = (clinic.archive()[0] / "card-2.edf").read_bytes()
     folder, second = clinic.nights / "r01", tree(clinic.archive()[1])
-    told = [f"{folder}/2026-11-26-S-0118", *(
-        f"{folder}/2026-11-26-S-0118/{it}: it is of 2026-11-26-S-0119"
-        for it in ("card-2.edf", "pieces.edf", "refused/000004.edf"))]
+    assert {"card-1.edf", "pieces.edf"} <= second.keys()
     said = clinic.done("forget", "S-0118", status=1).splitlines()
-    assert said[0] == f"has {told[0]}" and said[2:5] == [f"stays {it}" for it in told[1:]], said
-    assert said[1].startswith(f"look: {told[0]}/refused/00000") and "or of both" in said[1]
+    assert said[0] == f"has {folder}/2026-11-26-S-0118" and len(said) == 2, said
+    assert said[1].startswith(f"look: {said[0][4:]}/refused/00000") and "or of both" in said[1]
     clinic.done("forget", "S-0118", "--yes", status=1)
-    rest = folder / "replaced/2026-11-26-rest"
-    assert (rest / "card-2.edf").read_bytes() == card
+    rest = folder / "replaced/2026-11-26.rest"
+    assert [it.read_bytes() for it in rest.rglob("*.edf")] == [b"no EDF"]
     names = {line.split("\t")[2] for line in (rest / "answers.log").read_text().splitlines()}
     assert names == {"b.edf", "S-0119.edf", "junk.edf"}
     assert tree(clinic.archive()[0]) == second and trace(clinic, "S-0118") == []
     assert clinic.done("verify") == "2 nights, 0 files changed\n"
     assert "put away before" in clinic.done("morning", "r01", "--card",
-                                            clinic.folder / "S-0119.EDF")
+                                            clinic.folder / "S-0119.EDF", status=1)
     clinic.done("forget", "S-0119", "--yes")
     assert os.listdir(folder / "replaced") == [] and clinic.archive() == []
 
@@ -200,10 +195,10 @@ def test_forget_of_the_second_patient_takes_its_names_from_the_first(clinic: Cli
     clinic.done("forget", "S-0119", "--yes", status=1)
     assert trace(clinic, "S-0119") == []
     first = clinic.archive()[0]
-    gone = {"card-2.edf", "pieces.edf", "refused/000004.edf", "whose.json"}
     now = tree(first)
-    assert set(kept) - set(now) == gone and clinic.done("verify") == "1 nights, 0 files changed\n"
-    assert [it["name"] for it in facts(first)["card"]] == ["S-0118.EDF", "forgotten"]
+    assert set(kept) - set(now) == {"whose.json"}
+    assert clinic.done("verify") == "1 nights, 0 files changed\n"
+    assert [it["name"] for it in facts(first)["card"]] == ["S-0118.EDF"]
     names = {line.split("\t")[2] for line in (first / "answers.log").read_text().splitlines()}
     assert names == {"a.edf", "S-0118.edf", "junk.edf"}
 
@@ -248,9 +243,9 @@ def test_forget_of_mended_files_and_of_a_recorder_that_the_config_lacks(clinic: 
     clinic.make(clinic.data / "r01/gone", SERVICE, SERVICE, 0o700)      # as a kill leaves it
     clinic.recorders = ("r02",)
     clinic.write_config({})
-    assert clinic.done("nights", status=1).startswith("r01/2026-11-26-S-0400")
+    assert clinic.done("nights").startswith("r01/2026-11-26-S-0400")
     said = clinic.done("forget", "S-0118", "--yes", status=1)
-    assert said.count("but are of S-0400") == 1 and "removed" not in said
+    assert said.count("but are of S-0400") == 1 and said.count("removed") == 1
     clinic.done("forget", "S-0400", "--yes")
     assert trace(clinic, "S-0") == [] and not (clinic.data / "r01/gone").exists()
 

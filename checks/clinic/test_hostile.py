@@ -217,11 +217,12 @@ def test_a_handle_that_is_kept_changes_nothing_after_the_answer(clinic: Clinic) 
     clinic.until_taken()
     os.write(go[1], b"x")
     assert os.waitpid(child, 0)[1] == 0
-    clinic.until(lambda: "accepted" in clinic.told(), "it is told")
+    clinic.until(lambda: clinic.told().get("written"), "it is told")
+    clinic.until(lambda: len(clinic.log()) == 2, "what it became is answered")
     clinic.stop(receiving)
     taken = list((clinic.data / "r01/tonight/taken").iterdir())
-    assert [it.read_bytes() for it in taken][:1] == [NIGHT.piece()]
-    clinic.done("morning", "r01")
+    assert [it.read_bytes() for it in taken] == [NIGHT.piece()]
+    clinic.done("morning", "r01", status=1)
     assert_all_is_there(clinic.archive(), ("S-0118", NIGHT.truth()))
 
 
@@ -249,6 +250,8 @@ def test_leases_and_locks_keep_nobody_waiting(clinic: Clinic) -> None:
 
 
 def test_a_file_that_grows_and_one_that_changes_under_the_copy(clinic: Clinic) -> None:
+    clinic.write_config({}, still="2 s")        # for so long its writer may be kept waiting
+
     def grow() -> None:
         fd = os.open("grows.edf", os.O_RDWR | os.O_CREAT, 0o640)
         os.write(fd, NIGHT.piece())
@@ -270,7 +273,9 @@ def test_a_file_that_grows_and_one_that_changes_under_the_copy(clinic: Clinic) -
 
 
 def test_many_tiny_files_delay_no_other_recorder(clinic: Clinic, is_long: bool) -> None:
+    clinic.write_config({}, refuse="60 s")
     count = 100_000 if is_long else TINY
+    share = max(1, clinic.run("status").seconds)        # other work may have the processors
 
     def flood() -> None:
         for nth in range(count):
@@ -280,13 +285,13 @@ def test_many_tiny_files_delay_no_other_recorder(clinic: Clinic, is_long: bool) 
     clinic.until(lambda: clinic.told().get("waiting_count", 0) > 20, "some wait", 120)
     for nth in range(5):
         clinic.put(f"{nth}.edf", NIGHT.piece(), "r02")
-        assert clinic.until(lambda: not clinic.inbox("r02"), "r02", 20) < 10
+        assert clinic.until(lambda: not clinic.inbox("r02"), "r02") < 10 * share
     told = clinic.told()
     assert len(told["waiting"]) == 20 and len(told["refused"]) <= 20
-    assert clinic.run("status").seconds < 5
+    assert clinic.run("status").seconds < 5 * share
     begun = time.monotonic()
     clinic.done("morning", "r02")
-    assert time.monotonic() - begun < 20
+    assert time.monotonic() - begun < 20 * share
     for it in receiving:
         clinic.stop(it)
 
@@ -316,6 +321,8 @@ NAMES = {b"esc\x1b]52;c;QUFB\x07.edf": r"esc\x1b]52;c;QUFB\x07.edf",
          "rtl\u202efde.edf".encode(): r"rtl\xe2\x80\xaefde.edf",
          "sep\u2028.edf".encode(): r"sep\xe2\x80\xa8.edf", b"--help": "--help", b"-rf": "-rf",
          b"$(touch x)`id`;'\".edf": "$(touch x)`id`;'\".edf", b" lead ": " lead ",
+         b'say "x" accepted new=9 known=0': 'say "x" accepted new=9 known=0',
+         "zero\u200b\u2060\ufeff\xad".encode(): r"zero\xe2\x80\x8b\xe2\x81\xa0\xef\xbb\xbf\xc2\xad",
          b"a" * 255: "a" * 255, b"<script>&.edf": "<script>&.edf", "ü.edf".encode(): "ü.edf"}
 
 
@@ -323,13 +330,15 @@ def test_names_are_never_part_of_a_path_or_a_line(clinic: Clinic) -> None:
     receiving = clinic.receive()
     for nth, name in enumerate(NAMES):
         clinic.put(name, NIGHT.piece(nth, nth + 1))
-    clinic.put(b"bad\x1b.edf", b"no EDF")
+    clinic.put(b'bad\x1b".edf', b"no EDF")
     clinic.until_taken()
+    clinic.until(lambda: clinic.told()["refused_count"], "it is refused")
+    assert '  refused: file "bad\\x1b\\x22.edf": refused E1 Cut\n' in clinic.done("status", status=1)
     clinic.stop(receiving, signal.SIGTERM)
     log = clinic.log()
     assert {line[2]: line[3] for line in log if line[3].startswith("accepted")} \
         == {spelled: "accepted new=1 known=0" for spelled in NAMES.values()}
-    assert all(len(line) == 4 for line in log) and len(log) == len(NAMES) + 1
+    assert all(len(line) == 6 for line in log) and len(log) == len(NAMES) + 1
     names = {name for name, _ in tree(clinic.data).items() if name.endswith(".edf")}
     assert all(Path(name).stem.isdigit() for name in names)
     for words in (["status"], ["status", "--json"], ["status", "--html"], ["nights", "--json"]):
@@ -339,7 +348,7 @@ def test_names_are_never_part_of_a_path_or_a_line(clinic: Clinic) -> None:
     assert "script" not in page and "S-0118" not in page and "edf" not in page
     clinic.done("morning", "r01", status=1)
     text = (clinic.archive()[0] / "report.txt").read_bytes()
-    assert b"\x1b" not in text and rb"bad\x1b.edf" in text
+    assert b"\x1b" not in text and rb"bad\x1b" in text
 
 
 def test_planted_sums_json_and_pictures_are_files_as_any_other(clinic: Clinic) -> None:

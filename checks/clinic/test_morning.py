@@ -1,6 +1,5 @@
 """Mornings, each with what it must make by hand, and the own reader's look at it."""
 import fcntl
-import json
 import os
 import time
 from datetime import datetime
@@ -31,9 +30,10 @@ def test_a_night_and_its_card(clinic: Clinic) -> None:
     clinic.night_took(files)
     said = clinic.done("morning", "r01", "--card", clinic.card(NIGHT.piece(), "card0.edf"))
     assert said.splitlines()[1:] == [
-        "  card card0.edf, here card-1.edf: all of it is put away; "
+        "  card \"card0.edf\", here card-1.edf: all of it is put away; "
         "it may be erased if the paper agrees",
-        "  nothing that came is missing: compare begin, end and gaps with the paper"]
+        "  nothing that came before morning was called is missing: "
+        "compare begin, end and gaps with the paper"]
     nights = clinic.archive()
     assert [it.name for it in nights] == [NAME]
     assert {it.name for it in nights[0].iterdir()} == ALWAYS | {
@@ -42,7 +42,7 @@ def test_a_night_and_its_card(clinic: Clinic) -> None:
         "recorder": "r01", "night": NAME, "patient": "S-0118", "investigation": "N1",
         "first": "2026-11-26T22:00:00", "last": "2026-11-27T06:00:00", "gap_minutes": 0.0,
         "card": [{"name": "card0.edf", "answer": "accepted new=80 known=880"}],
-        "refused": [], "differs": [], "look": []}
+        "refused": [], "differs": [], "look": [], "same_night": []}
     assert_all_is_there(nights, ("S-0118", NIGHT.truth()))
     assert sorted(it.read_bytes() for it in (nights[0] / "taken").iterdir()) \
         == sorted(files.values())
@@ -118,7 +118,7 @@ def test_the_evenings_date_after_midnight_is_a_night_of_its_own(clinic: Clinic) 
     assert [len(starts(it)) for it in nights] == [240, 240]
     assert_all_is_there(nights, ("S-0118", {**evening.truth(), **late.truth()}))
     assert [len(facts(it)["look"]) for it in nights] == [1, 1]
-    assert facts(nights[0])["look"][0].startswith("this call made 2 nights, ")
+    assert facts(nights[0])["look"][0].startswith("this call made 2 nights: ")
     assert (nights[0] / "answers.log").exists() and not (nights[1] / "answers.log").exists()
     assert [len(list((it / "taken").iterdir())) for it in nights] == [1, 1]
 
@@ -162,15 +162,16 @@ def test_two_patients_of_one_morning_and_a_code_with_odd_letters(clinic: Clinic)
 
 def test_a_card_twice_and_a_late_file(clinic: Clinic) -> None:
     put_away(clinic, {"a.edf": NIGHT.piece(0, 480)}, NIGHT.piece())
-    before = json.dumps(facts(clinic.archive()[0]))
     said = clinic.done("morning", "r01", "--card", clinic.folder / "card0.edf")
-    assert "put away before" in said and "nothing came" in said
+    assert "put away before" in said and "nothing was accepted" in said
     assert [it.name for it in clinic.archive()] == [NAME]
     nights = put_away(clinic, {"late.edf": NIGHT.piece(480, 560)}, NIGHT.piece())
     assert [it.name for it in nights] == [NAME, f"{NAME}.2"]
-    assert json.dumps(facts(nights[0])) == before
     report = (nights[1] / "report.txt").read_text().splitlines()
     assert report[1].startswith(f"{NAME} is there too") and report[2] == "no card is in it"
+    assert [facts(it)["same_night"] for it in nights] == [
+        [{"night": f"{NAME}.2", "has_all": False, "all_here": True}],
+        [{"night": NAME, "has_all": True, "all_here": False}]]
     assert len(starts(nights[1])) == 80, "a card that a night has was joined again"
 
 
@@ -184,9 +185,9 @@ def test_two_cards_of_which_one_is_no_edf(clinic: Clinic) -> None:
 
 
 def test_a_card_alone_and_a_card_that_is_none(clinic: Clinic) -> None:
-    assert "nothing came" in clinic.done("morning", "r01")
+    assert "nothing was accepted" in clinic.done("morning", "r01")
     said = clinic.done("morning", "r01", "--card", clinic.card(b"no card"), status=1)
-    assert "card.edf was refused E1 Cut" in said and clinic.archive() == []
+    assert 'card "card.edf" was refused E1 Cut' in said and clinic.archive() == []
     assert not (clinic.data / "r01/morning").exists()
     clinic.done("morning", "r01", "--card", clinic.card(NIGHT.piece()))
     assert [it.name for it in clinic.archive()] == [NAME]
@@ -225,12 +226,13 @@ def test_what_waits_in_the_inbox_is_of_the_next_night(clinic: Clinic) -> None:
     clinic.put("a.edf", NIGHT.piece(0, 480))
     clinic.until_taken()
     clinic.put("b.edf.part", NIGHT.piece(480))
-    clinic.done("morning", "r01")
+    assert '"b.edf.part"' in clinic.done("morning", "r01", status=1)
     (clinic.inboxes / "r01/b.edf.part").rename(clinic.inboxes / "r01/b.edf")
     clinic.until_taken()
     clinic.stop(child)
     clinic.done("morning", "r01")
     assert [len(starts(it)) for it in clinic.archive()] == [480, 480]
+    assert facts(clinic.archive()[1])["look"] == []
 
 
 @pytest.mark.parametrize("command, name, why", [
@@ -282,4 +284,4 @@ def test_it_waits_for_another_that_has_the_nights(clinic: Clinic) -> None:
         child = clinic.started("morning", "r01")
         time.sleep(4)
         assert child.poll() is None
-    assert child.wait(60) == 0 and len(clinic.archive()) == 1
+    assert child.wait(60) == 1 and len(clinic.archive()) == 1

@@ -1,4 +1,5 @@
 """What receive takes, keeps, leaves and tells."""
+import hashlib
 import os
 import signal
 import time
@@ -54,7 +55,8 @@ def test_without_a_count_or_with_a_hole_it_waits_for_unclosed(clinic: Clinic) ->
     clinic.put("whole.edf", NIGHT.piece(20, 40))
     clinic.until(lambda: clinic.inbox() == ["hole.edf", "open.edf"], "whole.edf", 7)
     clinic.until_taken()
-    assert [line[2] for line in clinic.log()] == ["whole.edf", "open.edf", "hole.edf"]
+    names = [line[2] for line in clinic.log()]
+    assert names[0] == "whole.edf" and sorted(names[1:]) == ["hole.edf", "open.edf"]
     clinic.stop(child)
 
 
@@ -75,9 +77,32 @@ def test_a_refused_file_waits_till_it_changes_and_then_is_refused_for_good(clini
     kept = list((clinic.data / "r01/tonight/refused").iterdir())
     assert [it.read_bytes() for it in kept] == [b"no EDF"]
     assert clinic.status()["causes"][0]["cause"] == "refused"
-    clinic.put("junk.edf", NIGHT.piece())
-    clinic.until(lambda: clinic.told()["unsolved"] == 0, "it came again")
-    assert clinic.status()["causes"] == []
+    clinic.put("junk.edf", NIGHT.piece())       # a name says nothing of contents
+    clinic.until(lambda: clinic.told()["accepted"] == 2, "another file of that name")
+    assert [it["cause"] for it in clinic.status()["causes"]] == ["refused"]
+    clinic.stop(child)
+    log = [line[2:] for line in clinic.log()]
+    sums = [hashlib.sha256(it).hexdigest() for it in (NIGHT.piece()[:-5], b"no EDF")]
+    assert [line for line in log if line[1].startswith("refused")] in [[
+        ["cut.edf", "refused E21 CutRecord record=40", str(len(NIGHT.piece()) - 5), sums[0]],
+        ["junk.edf", "refused E1 Cut", "6", sums[1]]][::way] for way in (1, -1)]
+
+
+def test_what_is_refused_and_waits_when_the_morning_comes_leaves_the_inbox(clinic: Clinic) -> None:
+    clinic.write_config({}, refuse="20 s")
+    child, cut = clinic.receive(), NIGHT.piece(20, 40)[:-5]
+    clinic.put("a.edf", NIGHT.piece(0, 20))
+    clinic.put("cut.edf", cut)
+    clinic.until(lambda: len(clinic.log()) == 2, "two answers")
+    clinic.done("morning", "r01", status=1, alone=True)
+    assert clinic.inbox() == ["cut.edf"]
+    clinic.until_taken()
+    clinic.until(lambda: clinic.told().get("waiting_count") == 0, "nothing waits")
+    assert clinic.log() == []       # it was told in the night before, which has it
+    assert [it.read_bytes() for it in (clinic.archive()[0] / "refused").iterdir()] == [cut]
+    clinic.put("b.edf", NIGHT.later(start=NIGHT.at(2_880)).piece())
+    clinic.until_taken()
+    clinic.done("morning", "r01", alone=True)
     clinic.stop(child)
 
 
@@ -94,7 +119,7 @@ def test_a_larger_file_is_left_and_a_full_night_takes_no_more(clinic: Clinic) ->
     assert told["left"] == [{"name": "large.edf",
                              "answer": f"has {size + 1} bytes, more than largest_file"}]
     assert {it["cause"] for it in clinic.status()["causes"]} >= {"left", "full"}
-    assert told["accepted"] <= 2 and "large.edf" in clinic.inbox()
+    assert told["accepted"] == 1 and "large.edf" in clinic.inbox()
     clinic.stop(child)
 
 

@@ -8,7 +8,7 @@ from typing import Any
 import pytest
 
 from checks.clinic import (test_archive, test_disks, test_hostile, test_kills, test_morning,
-                           test_taking)
+                           test_taking, test_written)
 from checks.clinic.clinic import SERVICE, Clinic
 from checks.lib import disks
 from checks.lib.arguments import TOP
@@ -18,18 +18,18 @@ NO_LINK = "os.O_RDONLY | os.O_NOFOLLOW | os.O_NONBLOCK"
 WRONG: dict[str, Any] = {
     "follows a link": (
         ("files.py", NO_LINK, "os.O_RDONLY | os.O_NONBLOCK"),
-        ("receive.py", "status = os.stat(name, dir_fd=fd, follow_symlinks=False)",
+        ("inbox.py", "status = os.stat(name, dir_fd=fd, follow_symlinks=False)",
          "status = os.stat(name, dir_fd=fd)"),
         test_hostile.test_links_pipes_and_sockets_are_left_and_told),
     "looks, and then opens": (
         ("files.py", NO_LINK, "os.O_RDONLY | os.O_NONBLOCK"),
-        ("receive.py", "if self.why_left(status) or key_of(status) != entry.key:", "if False:"),
-        ("receive.py", "if count != entry.key[1] or key_of(os.fstat(fd)) != entry.key:", "if False:"),
+        ("inbox.py", "if self.why_left(status) or key_of(status) != entry.key:", "if False:"),
+        ("inbox.py", "if count != key[1] or key_of(os.fstat(fd)) != key:", "if False:"),
         test_hostile.test_a_name_that_is_exchanged_between_the_look_and_the_opening),
     "moves in place of copying": (
-        ("receive.py", "            count = files.copy(fd, target, entry.key[1])[0]\n",
+        ("inbox.py", "            return copy(fd, entry.key, target)\n",
          "            os.rename(os.path.join(self.config.inboxes, self.name, entry.name), target)\n"
-         "            count = entry.key[1]\n"),
+         "            return files.sum_of(fd)\n"),
         test_hostile.test_a_handle_that_is_kept_changes_nothing_after_the_answer),
     "waits for a lease": (
         ("files.py", NO_LINK, "os.O_RDONLY | os.O_NOFOLLOW"),
@@ -39,34 +39,45 @@ WRONG: dict[str, Any] = {
         test_hostile.test_names_are_never_part_of_a_path_or_a_line),
     "writes over a night": (
         ("nights.py", "if it not in used)", ")"),
-        ("nights.py", "    if files.exists(target):\n        return read_facts(target)\n", ""),
+        ("making.py", "    if not files.exists(target):\n", "    if target:\n"),
         ("files.py", "    if exists(new) and os.path.isdir(old):\n", "    if not exists(old):\n"),
-        ("nights.py", "    files.rename(new, join(place.archive, made[\"night\"]))",
-         "    files.remove_tree(join(place.archive, made[\"night\"]))\n"
-         "    files.rename(new, join(place.archive, made[\"night\"]))"),
+        ("making.py", "    files.rename(new, target)",
+         "    files.remove_tree(target)\n    files.rename(new, target)"),
         test_morning.test_a_nap_and_a_night_of_one_day_have_two_names),
     "forgets the minutes of a refused file": (
-        ("morning.py", "lacks = sum(run.end - run.first for run in runs), missing(runs, held)",
+        ("giving.py", "lacks = sum(run.end - run.first for run in runs), missing(runs, held)",
          "lacks = sum(run.end - run.first for run in runs), 0"),
         test_morning.test_a_clock_that_is_set_back_by_two_seconds),
     "takes a card twice": (
-        ("morning.py", "elif summed in known:", "elif not summed:"),
+        ("morning.py", "if summed in known:\n                self",
+         "if not summed:\n                self"),
         test_morning.test_a_card_twice_and_a_late_file),
     "joins two nights of code X": (
-        ("morning.py", "return gap >= recorder.pause * text.SECOND or", "return False and"),
+        ("nights.py", "return gap >= recorder.pause * text.SECOND or", "return False and"),
         test_morning.test_two_nights_of_code_x_are_not_joined),
     "leaves out a card that contradicts": (
-        ("morning.py", "if any(it.answer.startswith(CONFLICTS) for it in cards):", "if False:"),
+        ("plan.py", "if not any(it.answer.startswith(CONFLICTS) for it in cards):", "if True:"),
         test_morning.test_a_card_with_a_flipped_bit),
     "takes a file out of the inbox before it is told": (
-        ("receive.py", "            given = programs.prepared(copied",
-         "            self.inbox.remove(entry)\n            given = programs.prepared(copied"),
+        ("receive.py", "                seen.line = self.take(",
+         "                self.inbox.take_out(entry, Line('', '', '', '', '0', ''))\n"
+         "                seen.line = self.take("),
         test_taking.test_a_killed_receive_loses_nothing_and_takes_nothing_away),
     "removes the morning from its plan on": (
         ("morning.py", "        files.rename(self.place.morning, self.gone)\n",
          "        files.remove(join(self.place.morning, PLAN))\n"
          "        files.rename(self.place.morning, self.gone)\n"),
         test_kills.test_killed_where_the_morning_ends),
+    "keeps nothing open of what it took": (
+        ("inbox.py", "                self.keep_open(folder, entry, line)\n", ""),
+        test_written.test_what_is_still_written_when_the_morning_comes_is_a_look),
+    "takes a file out by its name alone": (
+        ("inbox.py", "if key_of(os.stat(ASIDE, dir_fd=folder, follow_symlinks=False)) != entry.key:",
+         "if False:"),
+        test_written.test_a_file_that_gets_the_name_of_one_that_is_taken_out),
+    "believes a name": (
+        ("place.py", "and (int(it.size), it.sum) in sums", "and it.name == later.name"),
+        test_written.test_a_name_that_is_used_again_hides_nothing),
     "does not tell a full disk": (
         ("receive.py", "seen.full = str(why) if isinstance(why, Full) else \"\"",
          "seen.full = \"\""),

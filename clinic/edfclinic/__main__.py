@@ -6,7 +6,8 @@ import sys
 from collections.abc import Callable
 from typing import Any
 
-from . import VERSION, backup, config, forget, morning, nights, place, receive, recode, status, text
+from . import (VERSION, backup, config, forget, morning, nights, place, receive, recode, status,
+               text, thin)
 
 HELP = """In the morning, with the memory card in this computer:
   sudo edfclinic morning r01 --card /media/CARD/NIGHT.EDF
@@ -24,9 +25,13 @@ COMMANDS: dict[str, tuple[str, dict[str, dict[str, Any]]]] = {
     "status": ("how each recorder is", {"--json": FLAG, "--html": FLAG, "--tell": FLAG}),
     "morning": ("put the night away", {"recorder": RECORDER, "--card": CARD}),
     "nights": ("list the archive", {"--json": FLAG}),
+    "seen": ("answer the looks of a night, by what you found",
+             {"night": NIGHT, "--why": {"required": True, "metavar": "TEXT"}}),
     "recode": ("make a night anew under another patient's code",
                {"night": NIGHT, "--patient": {"required": True, **CODE}}),
     "forget": ("list all of a patient; --yes removes it", {"code": CODE, "--yes": FLAG}),
+    "thin": ("leave of old nights night.edf, report.txt and night.json alone",
+             {"--older": {"required": True, "metavar": "AGE", "help": "as 400d or 1y"}}),
     "verify": ("say which files changed since", {"night": {"nargs": "*", **NIGHT}}),
     "backup": ("copy the nights that the backup lacks", {}),
     "help": ("print this, or more of a command", {"of": {"nargs": "?", "metavar": "COMMAND"}})}
@@ -49,7 +54,12 @@ def words() -> argparse.ArgumentParser:
 def run(given: argparse.Namespace) -> int:
     if given.command == "help":
         words().parse_args([*filter(None, [given.of]), "--help"])
-    read = config.read(given.config, os.geteuid() == 0)
+    try:
+        read = config.read(given.config, os.geteuid() == 0)
+    except text.Wrong as why:
+        if getattr(given, "tell", False):
+            status.tell_wrong(given.config, why)
+        raise
     if given.command == "receive" and bool(given.recorder) == given.all:
         raise text.Wrong("receive wants a RECORDER, or --all")
     if getattr(given, "recorder", None):
@@ -61,6 +71,8 @@ def run(given: argparse.Namespace) -> int:
         "status": lambda: status.status(read, given.json, given.html, given.tell),
         "morning": lambda: morning.Morning(read, given.recorder, cards).run(),
         "nights": lambda: nights.nights(read, given.json),
+        "seen": lambda: nights.seen(read, given.night, given.why),
+        "thin": lambda: thin.thin(read, given.older),
         "recode": lambda: recode.recode(read, given.night, given.patient),
         "forget": lambda: forget.forget(read, given.code, given.yes),
         "verify": lambda: nights.verify(read, given.night), "backup": lambda: backup.backup(read)}
@@ -68,13 +80,20 @@ def run(given: argparse.Namespace) -> int:
 
 
 def main() -> int:
+    if sys.stdout is None or sys.stderr is None:    # they are closed
+        return text.TROUBLE
     for stream in (sys.stdout, sys.stderr):
         if isinstance(stream, io.TextIOWrapper):
             stream.reconfigure(errors="backslashreplace")
     try:
-        return run(words().parse_args())
-    except (text.Wrong, text.Trouble, OSError, KeyError) as why:
+        try:
+            return run(words().parse_args())
+        finally:
+            sys.stdout.flush()
+    except Exception as why:
         text.say(f"edfclinic: {text.why(why)}")
+        for stream in (sys.stdout, sys.stderr):     # what it did not take goes nowhere
+            os.dup2(os.open(os.devnull, os.O_WRONLY), stream.fileno())
         return getattr(why, "status", text.TROUBLE)
 
 

@@ -4,15 +4,24 @@ import os
 from . import files, text
 from .config import Config
 from .files import join
-from .nights import differing, folders
+from .nights import FACTS, NIGHT, REPORT, SEEN, differing, folders, sums, write_sums
 from .place import Place, places
 from .text import DONE, LOOK, Trouble
+
+
+ANEW = (FACTS, REPORT, SEEN)    # looks are answered, and nights of an evening tell of each other
 
 
 def keep(place: Place, folder: str, root: str) -> list[str]:
     """Copies a night that is not there, while nobody forgets it; whole, it gets its name."""
     target = join(root, os.path.relpath(folder, place.archive))
     if files.exists(target):
+        with open(place.lock_nights()):
+            wanted, there = sums(folder), sums(target)
+            anew = [it for it in ANEW if it in wanted and wanted[it] != there.get(it)]
+            for name in anew if wanted.get(NIGHT) == there.get(NIGHT) else []:
+                files.replace(join(target, name), (files.read(join(folder, name)) or "").encode())
+                write_sums(target, sums(target), name)
         return differing(target, folder)
     new = join(os.path.dirname(target), ".new")
     with open(place.lock_nights()), files.whole_or_none(new):

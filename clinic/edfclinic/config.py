@@ -2,6 +2,7 @@
 import os
 import re
 import tomllib
+from contextlib import suppress
 from dataclasses import dataclass, fields
 from typing import Any
 
@@ -18,6 +19,7 @@ AMOUNT, CLOCK = re.compile(r"(\d{1,9}(?:\.\d{1,3})?) ?([A-Za-z]+)"), re.compile(
 class Recorder:
     name: str
     by_onset: bool = False
+    expected: bool = False                  # each night: where nothing comes, that is told
     mend: tuple[str, ...] | None = None     # the words for edfmend
     pause: float = 6 * 3600
     ends: int = 12 * 60                     # minutes after midnight
@@ -31,7 +33,8 @@ class Config:
     nights: str = "/srv/nights"
     free_space: int = 20 * 10**9
     largest_file: int = 4 * 10**9
-    largest_night: int = 40 * 10**9
+    largest_night: int = 4 * 10**9
+    largest_export: int = 4 * 10**9
     silent: float = 30 * 60
     watch: tuple[int, int] = (22 * 60, 6 * 60)
     alarm: tuple[str, ...] = ()
@@ -61,17 +64,17 @@ def clock(given: str) -> int:
 
 
 def value(name: str, given: Any) -> Any:
-    if name in ("free_space", "largest_file", "largest_night"):
+    if name in ("free_space", "largest_file", "largest_night", "largest_export"):
         return int(amount(given, SIZES))
     if name in ("silent", "still", "unclosed", "refuse", "pause"):
         return amount(given, TIMES)
     if name in ("watch", "ends"):
         begin, _, end = str(given).partition("-")
         return (clock(begin), clock(end)) if name == "watch" else clock(str(given))
-    if name in ("by_onset", "mend") and isinstance(given, bool):
-        return given if name == "by_onset" else () if given else None
-    if name in ("alarm", "mend", "by_onset"):
-        if name == "by_onset" or not isinstance(given, list) or {*map(type, given)} - {str}:
+    if name in ("by_onset", "expected", "mend") and isinstance(given, bool):
+        return given if name != "mend" else () if given else None
+    if name in ("alarm", "mend", "by_onset", "expected"):
+        if name in ("by_onset", "expected") or not isinstance(given, list) or {*map(type, given)} - {str}:
             raise ValueError('wants true or false, or words as ["mail", "root"]')
         return tuple(given)
     if name == "backup" and given == "":
@@ -90,6 +93,16 @@ def values(given: dict[str, Any], kind: type, where: str) -> dict[str, Any]:
         except ValueError as why:
             raise Wrong(f"config: {where}{name!r} {why}") from None
     return given
+
+
+def readable(path: str) -> dict[str, Any]:
+    """Of a config that is wrong the values that can be read."""
+    found: dict[str, Any] = {}
+    with suppress(OSError, ValueError), open(path, "rb") as file:
+        for name, given in tomllib.load(file).items():
+            with suppress(ValueError):
+                found[name] = value(name, given)
+    return found
 
 
 def read(path: str, is_root: bool) -> Config:

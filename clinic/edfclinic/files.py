@@ -128,13 +128,32 @@ def sum_of(fd: int) -> str:
         return hashlib.file_digest(file, "sha256").hexdigest()
 
 
+def prefix_sums(path: str, sizes: set[int]) -> set[tuple[int, str]]:
+    """With each of these sizes that the file reaches the sum of so many of its first bytes."""
+    found, summed, at = set(), hashlib.sha256(), 0
+    with opened(path) as fd:
+        for size in sorted(it for it in sizes if it <= os.fstat(fd).st_size):
+            while piece := os.pread(fd, min(PIECE, size - at), at):
+                summed.update(piece)
+                at += len(piece)
+            found.add((size, summed.hexdigest()))
+    return found
+
+
 def sum_of_file(path: str) -> str:
     with opened(path) as fd:
         return sum_of(fd)
 
 
+def walk(path: str) -> Iterator[tuple[str, list[str], list[str]]]:
+    """Its folders; one that can't be listed is an error, and not an empty one."""
+    def fail(why: OSError) -> None:
+        raise why
+    return os.walk(path, topdown=False, onerror=fail)
+
+
 def sync_tree(path: str) -> None:
-    for above, _, listed in os.walk(path, topdown=False):
+    for above, _, listed in walk(path):
         for name in listed:
             with opened(join(above, name)) as fd:
                 os.fsync(fd)
@@ -143,7 +162,7 @@ def sync_tree(path: str) -> None:
 
 def below(path: str) -> list[str]:
     return sorted(os.path.relpath(join(above, name), path)
-                  for above, _, listed in os.walk(path) for name in listed)
+                  for above, _, listed in (walk(path) if exists(path) else ()) for name in listed)
 
 
 def names(path: str) -> list[str]:

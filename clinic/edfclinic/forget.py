@@ -3,11 +3,11 @@ has stays, and is told. A kill leaves what the next call finds again."""
 import hashlib
 import os
 
-from . import files, nights, programs
+from . import files, making, nights, programs
 from .config import Config
 from .files import join
-from .nights import FACTS, REPORT, SUMS, WHOSE, check_code, free_name
-from .place import LOG, Place, places, read_log
+from .nights import FACTS, PATIENT, REPORT, REST, SEEN, SUMS, WHOSE, check_code, free_name
+from .place import LOG, REFUSED, Place, places, read_log
 from .text import DONE, LOOK, Trouble, say, spell
 
 BEYOND = "not looked at: inboxes, cards, the config, the journal (names of files), other copies"
@@ -28,12 +28,12 @@ def strip(folder: str, doomed: set[str], whose: Whose) -> None:
         files.remove(join(folder, name))
     made, last = dict[str, bytes](), {WHOSE: files.as_json(whose)} if whose else {}
     if FACTS not in doomed and (facts := nights.read_facts(folder)):
-        gone = {it[2:] for it in lines} - {it[2:] for it in stay}
+        gone = {it[2:4] for it in lines} - {it[2:4] for it in stay}
         lost = [it for it in facts["refused"] if (it["name"], it["answer"]) in gone]
         lost += [it for nth, it in enumerate(facts["card"], 1) if f"card-{nth}.edf" in doomed]
         for it in lost:
             it["name"] = nights.FORGOTTEN
-        made = {FACTS: files.as_json(facts), REPORT: nights.report(folder, facts).encode()}
+        made = {FACTS: files.as_json(facts), REPORT: making.report(folder, facts).encode()}
     made |= {LOG: "".join("\t".join(it) + "\n" for it in stay).encode()} if lines else {}
     sums = {it: of for it, of in nights.sums(folder).items() if it not in doomed | {WHOSE}}
     sums |= {it: hashlib.sha256(data).hexdigest() for it, data in (made | last).items()}
@@ -48,8 +48,8 @@ def rest_of(folder: str) -> str:
     """A name without the code for what stays of a night."""
     above, night = os.path.split(folder)
     replaced = join(above.removesuffix("/replaced"), "replaced")
-    name = free_name(night[:10], "rest", {*files.names(replaced)})
-    return folder if night[10:].startswith("-rest") else join(replaced, name)
+    name = free_name(f"{night[:10]}{REST}", {*files.names(replaced)})
+    return folder if nights.is_rest(folder) else join(replaced, name)
 
 
 class Forgetting:
@@ -70,7 +70,7 @@ class Forgetting:
         before = files.from_json(self.begun) or [code]
         if before[0] != code:
             raise Trouble(f"call edfclinic forget {before[0]} --yes again: it was not finished")
-        self.gone = {f"patient {self.code}", *before[1:]}
+        self.gone = {f"{PATIENT}{self.code}", *before[1:]}
         self.going = [it for it, of in self.facts.items() if self.night[it] in self.gone
                       or of.get("patient") == self.code and not self.made_of[it]]
         for folder in self.going:       # and those that it was made of, when it was recoded
@@ -80,6 +80,12 @@ class Forgetting:
     def visit(self, folder: str, is_going: bool) -> None:
         """Parts what is the patient's from what stays, tells both, and if it is meant does it."""
         whose: Whose = files.from_json(join(folder, WHOSE)) or {}
+        facts = self.facts[folder]
+        if is_going and "same_night" not in facts:      # of 2.0.0, which did not tell of each
+            codes = {it: programs.code_of(join(folder, it)) for it in files.below(folder)
+                     if it.startswith(REFUSED) and it not in whose}
+            whose |= {it: [f"{PATIENT}{code}"] for it, code in codes.items()
+                      if code not in ("", "X", facts.get("patient"))}
         rest = {it: [night for night in whose[it] if night not in self.gone] for it in whose}
         there = [it for it in whose if files.exists(join(folder, it))]
         doomed, to = {it for it in rest if not rest[it]}, folder
@@ -101,7 +107,8 @@ class Forgetting:
                 self.lines.add(f"look: {path} stays: it is of this patient, of {of}, or of both")
             elif of and is_going:
                 self.lines.add(f"stays {path}: it is of {of}")
-        if self.is_meant and (is_going or rest != whose or {*files.below(folder)} <= {SUMS, LOG}):
+        is_left = {*files.below(folder)} <= {SUMS, LOG, SEEN}
+        if self.is_meant and (is_going or rest != whose or is_left):
             self.part(folder, to, doomed, {it: rest[it] for it in rest if rest[it]})
 
     def part(self, folder: str, to: str, doomed: set[str], stay: Whose) -> None:
@@ -110,7 +117,7 @@ class Forgetting:
             files.rename(folder, to)
         strip(to, doomed, {it: stay[it] for it in stay if stay[it] != [os.path.basename(to)]})
         # Where no file stays the log does, for the names of others.
-        if {*files.below(to)} <= {SUMS, LOG} and not read_log(join(to, LOG)):
+        if {*files.below(to)} <= {SUMS, LOG, SEEN} and not read_log(join(to, LOG)):
             files.remove_tree(to)
 
 
@@ -124,7 +131,7 @@ def forget(config: Config, code: str, is_meant: bool) -> int:
             of = Forgetting(place, [join(it, place.name) for it in roots], code, is_meant)
             if is_meant:
                 files.replace(of.begun, files.as_json([code, *sorted(of.gone)]))
-            for folder in sorted(of.facts, key=lambda it: os.path.basename(it)[10:15] != "-rest"):
+            for folder in sorted(of.facts, key=lambda it: not nights.is_rest(it)):
                 of.visit(folder, folder in of.going)
             if is_meant:
                 files.remove(of.begun)

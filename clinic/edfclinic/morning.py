@@ -1,237 +1,50 @@
 """morning: plans, and puts the night away by renames. A kill between two leaves what the next call
 goes on with: a `morning` without a plan, which takes cards, or with one, which is finished."""
 import os
-from bisect import bisect_right
-from contextlib import closing
-from dataclasses import dataclass, field
-from datetime import timedelta
+import time
+from contextlib import suppress
 from typing import Any
 
-from . import files, nights, programs, text
-from .config import Config, Recorder
+from . import files, making, nights, text
+from .config import Config
 from .files import join
-from .place import LOG, REFUSED, TAKEN, Card, Line, Place, check, read_log, unsolved
-from .programs import Held, Run, accepted
-from .text import DONE, LOOK, Trouble
+from .inbox import ASIDE, Inbox
+from .place import LOG, REFUSED, TAKEN, Card, Place, check, read_log
+from .plan import CARDS, Planning
+from .programs import accepted
+from .text import DONE, LOOK, Trouble, named
 
-CARDS, PLAN, WAIT = "cards", "plan.json", 120.0     # seconds for which receive may be busy
-MOST_NAMED, MOST_NIGHTS = 1_000, 100
-CONFLICTS = ("refused E30 ", "refused E31 ")
+PLAN, WAIT, RUNS = "plan.json", 120.0, 3.0      # seconds for which receive is busy, or begins
+NAMED = 3                                       # names that are told
 Sums = list[tuple[Card, str]]
 
 
-@dataclass
-class File:
-    path: str
-    name: str
-    answer: str
-    given: str = ""
-    runs: list[Run] | None = None
-    code: str = ""      # its patient's, where that is known
+def is_receiving(place: Place) -> bool:
+    end = time.monotonic() + RUNS
+    while not (is_locked := files.is_locked(place.session)) and time.monotonic() < end:
+        time.sleep(0.05)
+    return is_locked
 
 
-@dataclass
-class Part:
-    path: str
-    held: Held
-    runs: list[Run]
-    files: dict[str, str] = field(default_factory=dict)     # of each name in the night what it is
-    facts: dict[str, Any] = field(default_factory=dict)
-    whose: dict[str, list[str]] = field(default_factory=dict)   # of what may be another night's
+def in_inbox(place: Place) -> list[str]:
+    """The names of what lies there and in no night. What was answered is told by its night."""
+    log = [it for above in (place.morning, place.tonight) for it in read_log(join(above, LOG))]
+    known, found = {(it.name, it.size): it.sum for it in log}, list[str]()
+    with Inbox(place.config, place.name).folder() as fd:
+        for name in sorted({*os.listdir(fd)} - {ASIDE}):
+            summed = ""
+            with suppress(FileNotFoundError):
+                status = os.stat(name, dir_fd=fd, follow_symlinks=False)
+                answered = known.get((text.spell(name), str(status.st_size)))
+                with suppress(OSError), files.opened(name, files.READ, fd) as file:
+                    summed = files.sum_of(file) if answered else ""
+                if not summed or summed != answered:
+                    found.append(text.spell(name))
+    return found
 
 
-def is_cut(before: Run, after: Run, recorder: Recorder) -> bool:
-    gap = after.first - before.end
-    ends = before.end + (recorder.ends * text.MINUTE - before.end) % (24 * text.HOUR)
-    return gap >= recorder.pause * text.SECOND or gap >= 30 * text.MINUTE and ends <= after.first
-
-
-def missing(runs: list[Run], held: list[Run]) -> int:
-    """Nanoseconds of these runs that the others, which are in order, lack."""
-    lacks, ends = 0, [it.end for it in held]
-    for run in runs:
-        at, nth = run.first, bisect_right(ends, run.first)
-        while nth < len(held) and held[nth].first < run.end:
-            lacks += max(0, held[nth].first - at)
-            at, nth = held[nth].end, nth + 1
-        lacks += max(0, run.end - at)
-    return lacks
-
-
-class Planning:
-    def __init__(self, recorder: Recorder, place: Place):
-        self.recorder, self.place, self.folder = recorder, place, place.morning
-        for name in files.names(self.folder):
-            if name.startswith("work"):
-                files.remove_tree(join(self.folder, name))
-        self.name, self.cuts = f"work.{os.urandom(6).hex()}", 0
-        self.work = join(self.folder, self.name)
-        files.make_folder(self.work)
-
-    def plan(self) -> dict[str, Any]:
-        log = read_log(join(self.folder, LOG))
-        taken = self.known(TAKEN, {line.file: line for line in log})
-        cards = self.known(CARDS, {})
-        held = self.store("first.db", [*taken, *cards])
-        exports, pieces = self.exports("first.db", held), []
-        if any(it.answer.startswith(CONFLICTS) for it in cards):
-            before = exports
-            exports = self.exports("second.db", self.store("second.db", [*cards, *taken]))
-            sums = {files.sum_of_file(path) for path, _, _ in exports}
-            pieces = [File(path, "", "", "", runs, it.patient) for path, it, runs in before
-                      if files.sum_of_file(path) not in sums]
-        parts = sorted((part for it in exports for part in self.parts(*it)),
-                       key=lambda it: (it.runs[0].first, it.held.patient, it.path))
-        self.compare(parts, [it[0] for it in exports], [*taken, *cards])
-        if parts:
-            self.give_out(parts, taken, cards, pieces, log)
-        files.sync_tree(self.work)
-        return {"cards": [f"card {it.name} was {it.answer}" for it in cards], "nights": [
-            {"files": it.files, "facts": it.facts, "whose": it.whose} for it in parts]}
-
-    def known(self, folder: str, log: dict[str, Line]) -> list[File]:
-        found, work = [], join(self.work, folder)
-        files.make_folder(work)
-        for name in [it for it in files.names(join(self.folder, folder)) if it.endswith(".edf")]:
-            path, line = join(self.folder, folder, name), log.get(name)
-            card = files.from_json(f"{path[:-4]}.json") or {}
-            told = (line.name, line.answer) if line else (card.get("name", name), "")
-            given = programs.prepared(path, work, self.recorder)
-            runs, is_mended = programs.outline(given), self.recorder.mend is not None
-            # What can't be read is known by its head, but where recorders write others there.
-            code = programs.code_of(given) if runs or not is_mended else ""
-            found.append(File(path, *told, given, runs, code))
-        return found
-
-    def store(self, name: str, given: list[File]) -> list[Held]:
-        with closing(programs.Session(self.folder, f"{self.name}/{name}")) as session:
-            for file in given:
-                is_fit = len(file.runs or ()) <= programs.MOST_RUNS
-                file.answer = session.take(file.given) if is_fit else programs.TOO_MANY
-                if programs.is_trouble(file.answer):
-                    raise Trouble(f"{file.name}: {file.answer} {session.why()}")
-            return session.held()
-
-    def exports(self, store: str, held: list[Held]) -> list[tuple[str, Held, list[Run]]]:
-        found = []
-        for it in held:
-            name = f"{store[:-3]}-{it.place}.edf"
-            programs.run(["edfstore", "export", store, str(it.place)], self.work,
-                         join(self.work, store), (0,), name)
-            runs = programs.outline(join(self.work, name))
-            if not runs:
-                raise Trouble(f"an export of {self.place.name} can't be read")
-            found.append((join(self.work, name), it, runs))
-        return found
-
-    def parts(self, path: str, held: Held, runs: list[Run]) -> list[Part]:
-        at = [nth for nth in range(1, len(runs)) if is_cut(runs[nth - 1], runs[nth], self.recorder)]
-        self.cuts += len(at)
-        if not at or self.cuts >= MOST_NIGHTS:
-            return [Part(path, held, runs)]
-        found = []
-        for begin, end in zip([0, *at], [*at, len(runs)]):
-            name = f"{os.path.basename(path)[:-4]}.{begin}.edf"
-            words = ["edfruns", "cut", path, "--from", text.shown(runs[begin].first)]
-            words += ["--to", text.shown(runs[end].first)] if end < len(runs) else []
-            programs.run(words, self.work, path, (0,), name)
-            found.append(Part(join(self.work, name), held, runs[begin:end]))
-        return found
-
-    def compare(self, parts: list[Part], exports: list[str], given: list[File]) -> None:
-        """Stops where the nights, taken back, are not what was exported, or lack what came."""
-        with closing(programs.Session(self.folder, f"{self.name}/back.db")) as session:
-            for part in parts:
-                if not accepted(answer := session.take(part.path)):
-                    raise Trouble(f"a night can't be taken back: {answer}")
-            for file in given:
-                if accepted(file.answer) and " new=0 " not in session.take(file.given):
-                    raise Trouble(f"the night lacks data records of {file.name}")
-            held = session.held()
-        back = [files.sum_of_file(path) for path, _, _ in self.exports("back.db", held)]
-        if back != [files.sum_of_file(path) for path in exports]:
-            raise Trouble("the nights, taken back, are not what was exported")
-
-    def give_out(self, parts: list[Part], taken: list[File], cards: list[File],
-                 pieces: list[File], log: list[Line]) -> None:
-        used = nights.used_names(self.place)
-        for part in parts:
-            runs, lists = part.runs, ("card", "refused", "differs", "look")
-            evening = runs[0].first // text.MINUTE - self.recorder.ends
-            day = text.EPOCH + timedelta(minutes=evening)
-            part.files = {nights.NIGHT: part.path}
-            lacks = sum(after.first - before.end for before, after in zip(runs, runs[1:]))
-            part.facts = {"night": nights.free_name(f"{day:%Y-%m-%d}", part.held.patient, used),
-                          "recorder": self.place.name, "patient": part.held.patient,
-                          "investigation": part.held.investigation,
-                          "first": text.shown(runs[0].first), "last": text.shown(runs[-1].end),
-                          "gap_minutes": text.minutes(lacks), **{name: [] for name in lists}}
-        first, lines = parts[0], [it for it in log if not accepted(it.answer)]
-        for nth, it in enumerate(cards, 1):
-            self.lay(it, f"card-{nth}.edf", first, parts)
-        for nth, it in enumerate(pieces, 1):
-            self.lay(it, f"{nights.PIECES}{f'-{nth}' * (nth > 1)}.edf", first, parts)
-        first.files |= {LOG: join(self.folder, LOG)} if log else {}
-        first.facts["card"] = [{"name": it.name, "answer": it.answer} for it in cards]
-        for file in taken:
-            self.give(file, TAKEN, parts, "" if accepted(file.answer) else "differs", False)
-        there = {os.path.basename(it.path): it
-                 for it in self.known(REFUSED, {line.file: line for line in lines})}
-        open_ones = {it.file for it in unsolved(log)}
-        for line in lines[:MOST_NAMED]:
-            file = there.get(line.file) or File("", line.name, line.answer)
-            self.give(file, REFUSED, parts, "refused", line.file not in open_ones)
-        for part in parts:
-            part.facts["look"] = look(part.facts, len(parts))
-        if len(lines) > MOST_NAMED:
-            first.facts["look"].append(f"{len(lines)} files were refused: see {LOG}")
-
-    def lay(self, file: File, name: str, part: Part, parts: list[Part]) -> None:
-        """Puts it into this night. This one, and the first, which has the log, tell of which nights
-        it may be, where these are others: of a patient without a night that patient."""
-        part.files[name] = file.path
-        own = [it for it in parts if file.code in ("", it.held.patient)]
-        spans = [it for it in own if any(run.first < it.runs[-1].end and it.runs[0].first < run.end
-                                         for run in file.runs or ())]
-        of = [it.facts["night"] for it in spans or own] or [f"patient {file.code}"]
-        for it in (part, parts[0]):
-            if of != [it.facts["night"]]:
-                it.whose[name] = of
-
-    def give(self, file: File, folder: str, parts: list[Part], told: str, again: bool) -> None:
-        runs = file.runs or []
-        own = [it for it in parts if runs and file.code == it.held.patient]
-        before = [it for it in own if it.runs[0].first <= runs[0].first]
-        part = (before[-1:] or own[:1] or parts[:1])[0]
-        if file.path:
-            self.lay(file, join(folder, os.path.basename(file.path)), part, parts)
-        if told:
-            held = sorted((run for it in own for run in it.runs), key=lambda run: run.first)
-            lasts, lacks = sum(run.end - run.first for run in runs), missing(runs, held)
-            is_known = file.runs is not None and len(file.runs) <= programs.MOST_RUNS
-            part.facts[told].append({"name": file.name, "answer": file.answer, "resent": again,
-                                     "minutes": text.minutes(lasts) if is_known else None,
-                                     "missing": text.minutes(lacks) if is_known else None})
-
-
-def look(night: dict[str, Any], count: int) -> list[str]:
-    """Why somebody must look, and what to do; no name of a file, for names may have codes."""
-    open_ones = [it for it in night["refused"] if not it["resent"]]
-    lost = round(sum(it["missing"] or 0 for it in open_ones), 2)
-    unknown, differs = sum(it["missing"] is None for it in open_ones), len(night["differs"])
-    clashes = sum(it["answer"].startswith(CONFLICTS) for it in open_ones)
-    do = "ask the engineer" if night["card"] else "call morning with its card"
-    told = {f"this call made {count} nights, all cards are in the folder of the first: right if no "
-            "morning was called for days, or if two slept here; else ask the engineer": count > 1,
-            **{f"a card was {it['answer']}: keep it, and ask the engineer": True
-               for it in night["card"] if not accepted(it["answer"])},
-            f"{lost} minutes were refused, and are missing: {do}": lost,
-            f"{unknown} refused files can't be read. If begin, end and gaps of the night (of "
-            f"{night['gap_minutes']} minutes) are as on paper, nothing is lost; else {do}": unknown,
-            f"{clashes} refused files contradict the night: ask the engineer for why": clashes,
-            f"{differs} files differ from the card at times that the report has; night.edf has what"
-            " the card has. Keep the card, and ask the engineer": differs}
-    return [text for text, is_so in told.items() if is_so]
+def shown(names: list[str]) -> str:
+    return ", ".join([named("file", it) for it in names[:NAMED]] + [".."] * (len(names) > NAMED))
 
 
 class Morning:
@@ -240,32 +53,70 @@ class Morning:
         self.place = Place(config, name)
         check(config.data, config.nights)
         self.lock = self.place.lock_nights()
-        self.gone, self.before = join(self.place.root, "gone"), list[dict[str, Any]]()
+        self.gone, self.known = join(self.place.root, "gone"), list[tuple[str, str]]()
+        self.looks, self.waiting = list[str](), 0
 
     def run(self) -> int:
         files.make_folder(self.place.archive)
         files.remove_tree(self.gone)
+        if not is_receiving(self.place):
+            self.looks.append("receive does not run: systemctl start "
+                              f"edfclinic-receive@{self.place.name}")
+        status = self.put_away_or_tell()
+        print("".join(f"look: {it}\n" for it in self.looks), end="")
+        return LOOK if self.looks else status
+
+    def put_away_or_tell(self) -> int:
         if plan := files.from_json(join(self.place.morning, PLAN)):
+            self.look_at_inbox()
             status = self.put_away(plan)
-            late = self.unknown_cards()
-            for card, _ in late:
-                print(f"{card.name}: an earlier morning was finished; call again with the card")
-            return LOOK if late else status
+            for card, _ in self.unknown_cards():
+                self.looks.append(f"{named('card', card.name)}: an earlier morning was finished; "
+                                  "call again with the card")
+            return max(status, self.tell_known())
         cards = self.unknown_cards()
-        if not self.stage(cards):
-            print(f"{self.place.name}: nothing came since the last morning; nothing is done")
-            return LOOK if any(it["look"] for it in self.before) else DONE
+        is_staged = self.stage(cards)
+        self.look_at_inbox()
+        status = self.tell_known()
+        if not is_staged:
+            return max(status, self.tell_refused())
         self.copy_cards(cards)
         planning = Planning(self.recorder, self.place)
         with files.whole_or_none(planning.work):
-            plan = planning.plan()
+            plan = planning.plan([it for _, folder in self.known for it in nights.span_of(folder)],
+                                 self.waiting)
         if plan["nights"]:
             files.replace(join(self.place.morning, PLAN), files.as_json(plan))
-            return self.put_away(plan)
-        print("".join(f"look: {it}; ask the engineer\n" for it in plan["cards"]), end="")
+            return max(status, self.put_away(plan))
+        self.looks += [f"{it}; ask the engineer" for it in plan["cards"]]
         return self.give_back()
 
+    def look_at_inbox(self) -> None:
+        """Behind the staging: what came before it is in the morning, or here, or was taken since.
+        Then tonight, which is looked at last, has it."""
+        waits, since = list[str](), list[str]()
+        try:
+            waits = in_inbox(self.place)
+        except OSError as why:
+            self.looks.append(f"its inbox can't be read, {why.strerror}: ask the engineer")
+        if files.exists(self.place.morning):
+            since = files.names(join(self.place.tonight, TAKEN))
+        self.looks += [f"{len(waits)} files wait in its inbox and are in no night of this morning: "
+                       f"{shown(waits)}: call again in 10 minutes; if they stay, ask the engineer"
+                       ] * bool(waits)
+        self.looks += [f"{len(since)} files are of the next night: call again"] * bool(since)
+        self.waiting = len(waits) + len(since)
+
+    def tell_refused(self) -> int:
+        print(f"{self.place.name}: nothing was accepted since the last morning; nothing is done")
+        lines = [it for it in read_log(join(self.place.tonight, LOG)) if not accepted(it.answer)]
+        self.looks += [f"{len(lines)} files were refused, and are in no night: "
+                       f"{shown([it.name for it in lines])}: call morning with their card, or ask "
+                       "the engineer"] * bool(lines)
+        return DONE
+
     def unknown_cards(self) -> Sums:
+        """Those that no night has; `known` gets the others."""
         known = {summed: night for night in nights.folders(self.place)
                  for name, summed in nights.sums(night).items() if name.startswith("card-")}
         found: Sums = []
@@ -274,15 +125,21 @@ class Morning:
                 summed = files.sum_of(card.fd)
             except OSError as why:
                 raise Trouble(f"{card.name} can't be read: {why.strerror}") from None
-            if summed in known and os.path.dirname(known[summed]) == self.place.replaced:
-                print(f"card {card.name} was put away before; edfclinic nights has its night")
-            elif summed in known:
-                self.before.append(nights.read_facts(known[summed]))
-                print(f"card {card.name} was put away before:", end=" ")
-                print("\n  ".join(nights.told(self.before[-1])))
+            if summed in known:
+                self.known.append((card.name, known[summed]))
             else:
                 found.append((card, summed))
         return found
+
+    def tell_known(self) -> int:
+        status = DONE
+        for name, night in self.known:
+            facts, seen = nights.read_facts(night), nights.answers(night)
+            is_one = os.path.dirname(night) == self.place.archive
+            said = making.told(facts, seen, not self.looks) if is_one else [f"it is in {night}"]
+            print(f"{named('card', name)} was put away before:", "\n  ".join(said))
+            status = LOOK if is_one and facts["look"] and not seen else status
+        return status
 
     def stage(self, cards: Sums) -> bool:
         tonight, morning = self.place.tonight, self.place.morning
@@ -314,9 +171,13 @@ class Morning:
 
     def put_away(self, plan: dict[str, Any]) -> int:
         looks = []
+        for rest in plan["rest"]:
+            making.make(self.place, rest)
+            self.looks += rest["facts"]["look"]
         for night in plan["nights"]:
-            made = nights.make(self.place, night)
-            said, folder = nights.told(made), join(self.place.archive, made["night"])
+            made = making.make(self.place, night)
+            folder = join(self.place.archive, made["night"])
+            said = making.told(made, (), not self.looks)
             said += [f"report: {join(folder, nights.REPORT)}"] if made["look"] else []
             print("\n  ".join(said))
             looks += made["look"]

@@ -1,29 +1,36 @@
-"""The archive: makes the folder of a night in `.new`, whole and synced, until it gets its name by
-one rename; nights and verify tell what there is, and whether it is as it was put away."""
+"""The folders of the archive, their names and their sums. nights, seen and verify tell what there
+is, that a look was answered, and whether it is as it was put away."""
+import os
 import re
-from collections.abc import Iterator
-from contextlib import contextmanager
 from itertools import chain, count
 from typing import Any
 
-from . import files, programs, text
-from .config import Config
+from . import files, text
+from .config import Config, Recorder
 from .files import join
-from .place import REFUSED, TAKEN, Place, places
-from .text import DONE, LOOK, Trouble, Wrong
+from .place import Place, places
+from .programs import Run
+from .text import DONE, LOOK, Wrong
 
 NIGHT, PIECES, REPORT = "night.edf", "pieces", "report.txt"
-FACTS, SUMS, NONE = "night.json", "SHA256SUMS", "there is no"
+FACTS, SUMS, SEEN, NONE = "night.json", "SHA256SUMS", "seen.txt", "there is no"
 REPLACES, WHOSE = "replaces", "whose.json"      # the night that was recoded; what is of others
-LINE = re.compile(r"(known|differs|new|lacking|\d+) records=(\d+) \w+=(\S+) \w+=(\S+)")
-COMPARED = {"known": "are alike in both", "differs": "differ", "new": "are not in night.edf",
-            "lacking": "are in night.edf alone"}
-FORGOTTEN, MOST_LINES = "forgotten", 1_000      # for a file's name; of a program's, in a report
+REST = ".rest"      # behind a date, as no code gives it: what is of no night of its morning
+FORGOTTEN, PATIENT = "forgotten", "patient "    # for a file's name; before an owner's code
 
 
-def free_name(day: str, code: str, used: set[str]) -> str:
+def is_cut(before: Run, after: Run, recorder: Recorder) -> bool:
+    gap = after.first - before.end
+    ends = before.end + (recorder.ends * text.MINUTE - before.end) % (24 * text.HOUR)
+    return gap >= recorder.pause * text.SECOND or gap >= 30 * text.MINUTE and ends <= after.first
+
+
+def name_of(day: str, code: str) -> str:
     plain = re.sub(r"\\x5c|[^A-Za-z0-9-]", "_", code)      # a spelled backslash is one letter
-    base = f"{day}-{plain[:40]}"
+    return f"{day}-{plain[:40]}"
+
+
+def free_name(base: str, used: set[str]) -> str:
     name = next(it for it in chain([base], (f"{base}.{nth}" for nth in count(2))) if it not in used)
     used.add(name)
     return name
@@ -35,86 +42,6 @@ def used_names(place: Place) -> set[str]:
     told = {night for it in whose for of in it.values() for night in of}
     told |= {(files.read(join(it, REPLACES)) or "").strip() for it in folders(place)}
     return told.union(files.names(place.archive), files.names(place.replaced))
-
-
-@contextmanager
-def new_folder(place: Place) -> Iterator[str]:
-    path = join(place.archive, ".new")
-    files.remove_tree(path)
-    with files.whole_or_none(path):
-        files.make_folder(path)
-        yield path
-
-
-def make(place: Place, night: dict[str, Any]) -> dict[str, Any]:
-    target = join(place.archive, night["facts"]["night"])
-    if files.exists(target):
-        return read_facts(target)
-    with new_folder(place) as new:
-        for folder in (TAKEN, REFUSED):
-            files.make_folder(join(new, folder))
-        for name, path in night["files"].items():
-            files.copy_file(path, join(new, name))
-        if night.get("whose"):
-            files.replace(join(new, WHOSE), files.as_json(night["whose"]))
-        return finish(place, new, night["facts"])
-
-
-def finish(place: Place, new: str, facts: dict[str, Any]) -> dict[str, Any]:
-    look, night = list(facts["look"]), join(new, NIGHT)
-    for name, command, room in (
-            ("view.edf", "fill", (place.config.largest_file, programs.MEMORY)),
-            ("night.svg", "picture", (1 << 26, 1 << 30))):
-        ran = programs.run(["edfruns", command, NIGHT], new, night, (), name, room)
-        if ran.status == 3 and b" refused E41" not in ran.err:
-            raise Trouble(f"edfruns {command}: {ran.why}")
-        if ran.status:
-            files.remove(join(new, name))
-            look.append(f"{NONE} {name}: {ran.why}; show the night to the engineer")
-    made: dict[str, Any] = {**facts, "look": look}
-    files.replace(join(new, FACTS), files.as_json(made))
-    files.replace(join(new, REPORT), report(new, made).encode())
-    lines = [f"{files.sum_of_file(join(new, name))}  {name}\n" for name in files.below(new)]
-    files.replace(join(new, SUMS), "".join(lines).encode())
-    files.sync_tree(new)
-    files.rename(new, join(place.archive, made["night"]))
-    return made
-
-
-def refused(file: dict[str, Any]) -> str:
-    known = "it can't be read, so nobody knows which minutes it has" if file["minutes"] is None \
-        else f"the night lacks {file['missing']} of its {file['minutes']} minutes"
-    return f"{'it came again, and is in the night' if file['resent'] else known} ({file['answer']})"
-
-
-def report(folder: str, facts: dict[str, Any]) -> str:
-    lines = [*told(facts), f"patient {facts['patient']}, investigation {facts['investigation']}",
-             f"view.edf is for EDFbrowser, night.svg a picture, {NIGHT} all data for programs"]
-    lines += [f"{it['name']}: {refused(it)}" for it in facts["refused"]]
-    lines += [f"{it['name']} differs from the card: {refused(it)}" for it in facts["differs"]]
-    pieces = [name for name in files.names(folder) if name.startswith(PIECES)]
-    for words in (["list", NIGHT], *(["compare", NIGHT, name] for name in pieces)):
-        ran = programs.run(["edfruns", *words], folder, join(folder, NIGHT))
-        said, of = text.spell_lines(ran.out or ran.err), ", which was received," * len(words[2:])
-        lines += ["", f"edfruns {' '.join(words)}{of} tells:", *(LINE.sub(
-            lambda it: f"from {it[3]} for {it[4]} seconds: {it[2]} data records, no gap"
-            if it[1].isdigit() else f"{it[3]} to {it[4]}: {it[2]} data records {COMPARED[it[1]]}",
-            one) for one in said[:MOST_LINES])]
-    return "\n".join(lines) + "\n"
-
-
-def told(facts: dict[str, Any]) -> list[str]:
-    kept = "keep it till each look is answered" if facts["look"] else \
-        "it may be erased if the paper agrees"
-    cards = [f"card {it['name']}, here card-{nth}.edf: all of it is put away; {kept}"
-             if programs.accepted(it["answer"]) else
-             f"card {it['name']}, here card-{nth}.edf, was {it['answer']}: none of it is put away"
-             for nth, it in enumerate(facts["card"], 1) if it["name"] != FORGOTTEN]
-    looks = [f"look: {it}" for it in facts["look"]] or [
-        "nothing that came is missing: compare begin, end and gaps with the paper"]
-    base, _, is_later = facts["night"].partition(".")
-    before = f"{base} is there too: of the same night, use what agrees with the paper, keep both"
-    return [line(facts), *[before] * bool(is_later), *(cards or ["no card is in it"]), *looks]
 
 
 def line(facts: dict[str, Any]) -> str:
@@ -133,17 +60,53 @@ def read_facts(folder: str) -> dict[str, Any]:
     return found if isinstance(found, dict) else {}
 
 
+def span(facts: dict[str, Any]) -> Run:
+    return Run(text.instant(facts["first"]), text.instant(facts["last"]))
+
+
+def span_of(folder: str) -> list[tuple[str, Run]]:
+    """Of which evening it is, from when to when; nothing where nobody knows."""
+    facts = read_facts(folder)
+    return [(facts["night"][:10], span(facts))] if "first" in facts else []
+
+
 def sums(folder: str) -> dict[str, str]:
     written = files.read(join(folder, SUMS)) or ""
     return {it[66:]: it[:64] for it in written.split("\n") if it[64:66] == "  "}
 
 
-def find(config: Config, night: str) -> tuple[Place, str]:
-    known = {f"{place.name}/{it.rpartition('/')[2]}": place for place in places(config)
-             for it in folders(place, False)}
+def write_sums(folder: str, known: dict[str, str], *anew: str) -> None:
+    """These, and those of the files that were written anew."""
+    known |= {it: files.sum_of_file(join(folder, it)) for it in anew}
+    lines = "".join(f"{known[it]}  {it}\n" for it in sorted(known))
+    files.replace(join(folder, SUMS), lines.encode())
+
+
+def answers(folder: str) -> list[str]:
+    """What `seen` wrote, the newest last."""
+    return (files.read(join(folder, SEEN)) or "").split("\n")[:-1]
+
+
+def is_rest(folder: str) -> bool:
+    """Those of 2.0.0 have -rest behind the date, as a code may, but no facts."""
+    behind = os.path.basename(folder)[10:]
+    return behind.startswith(REST) or behind.startswith("-rest") and not read_facts(folder)
+
+
+def strays(place: Place) -> list[str]:
+    """The folders of files whose patients had no night of their morning, which nobody has seen."""
+    return [it for it in folders(place) if is_rest(it) and not answers(it) and any(
+        PATIENT in of[0] and files.exists(join(it, name))
+        for name, of in (files.from_json(join(it, WHOSE)) or {}).items())]
+
+
+def find(config: Config, night: str, is_all: bool = False) -> tuple[Place, str]:
+    """Its place, and its folder."""
+    known = {f"{place.name}/{os.path.basename(it)}": (place, it) for place in places(config)
+             for it in reversed(folders(place, is_all))}
     if night not in known:
         raise Wrong(f"{night} is no night; edfclinic nights has them, as r01/2026-11-26-S-0118")
-    return known[night], night.partition("/")[2]
+    return known[night]
 
 
 def check_code(code: str) -> None:
@@ -153,19 +116,35 @@ def check_code(code: str) -> None:
 
 
 def nights(config: Config, is_json: bool) -> int:
-    listed = [{**read_facts(it), "folder": it} for place in places(config)
+    listed = [{**read_facts(it), "folder": it, "seen": answers(it)} for place in places(config)
               for it in folders(place, False)]
-    whole = [it for it in listed if len(it) > 1]
-    looks = [f"; look: read {it['folder']}/{REPORT}" * bool(it["look"]) for it in whole]
-    said = [line(it) + more for it, more in zip(whole, looks)] or ["no night was put away yet"]
-    print(files.as_json(whole).decode() if is_json else "\n".join(said))
-    for it in [it for it in listed if len(it) == 1]:
+    whole = [it for it in listed if "night" in it]
+    said = [line(it) + (f"; look answered: {it['seen'][-1]}" if it["look"] and it["seen"] else
+                        f"; look: read {it['folder']}/{REPORT}" * bool(it["look"])) for it in whole]
+    print(files.as_json(whole).decode() if is_json else
+          "\n".join(said or ["no night was put away yet"]))
+    for it in [it for it in listed if "night" not in it]:
         text.say(f"{it['folder']} has no {FACTS}")
-    return LOOK if any(looks) or len(whole) < len(listed) else DONE
+    is_open = any(it["look"] and not it["seen"] for it in whole)
+    return LOOK if is_open or len(whole) < len(listed) else DONE
+
+
+def seen(config: Config, night: str, why: str) -> int:
+    """Writes beside the report what somebody who looked found."""
+    place, folder = find(config, night, True)
+    if not 1 <= len(why.strip()) <= 500:
+        raise Wrong("--why has 1 to 500 letters, as 'as on paper, AB'")
+    with open(place.lock_nights()):
+        said = [*answers(folder), f"{text.now()} {text.spell(why.strip())}"]
+        files.replace(join(folder, SEEN), "".join(f"{it}\n" for it in said).encode())
+        write_sums(folder, sums(folder), SEEN)
+    print(f"{night}: {said[-1]}")
+    return DONE
 
 
 def differing(folder: str, listed: str) -> list[str]:
-    wanted, there = sums(listed), set(files.below(folder)) - {SUMS}
+    """What is not as its sums say, or those of the other folder, which may have fewer."""
+    wanted, there = {**sums(folder), **sums(listed)}, set(files.below(folder)) - {SUMS}
     wrong = [f"{name}: missing" for name in sorted(set(wanted) - there)]
     wrong += [f"{name}: has no sum" for name in sorted(there - set(wanted))]
     for name in sorted(there & set(wanted)):
@@ -174,12 +153,16 @@ def differing(folder: str, listed: str) -> list[str]:
             wrong += [] if is_same else [f"{name}: differs"]
         except OSError as why:
             wrong.append(f"{name}: {why.strerror}")
-    return [text.spell(f"{folder}/{it}") for it in (wrong if wanted else [f"{SUMS}: none"])]
+    return [text.spell(f"{folder}/{it}") for it in (wrong if sums(listed) else [f"{SUMS}: none"])]
 
 
 def verify(config: Config, given: list[str]) -> int:
     known = [it for place in places(config) for it in folders(place)]
-    chosen = [join(place.archive, name) for place, name in map(lambda it: find(config, it), given)]
+    chosen = [folder for _, folder in map(lambda it: find(config, it), given)]
     wrong = [said for folder in chosen or known for said in differing(folder, folder)]
-    print("\n".join([*wrong, f"{len(chosen or known)} nights, {len(wrong)} files changed"]))
+    said = f"{len(wrong)} files changed"
+    print("\n".join([*wrong, f"{len(chosen or known)} nights, {said}"]))
+    if not chosen:      # for status; told to everybody, so without names
+        told = {"at": text.now(), "failed": said * bool(wrong)}
+        files.replace(join(config.data, "verify.json"), files.as_json(told))
     return LOOK if wrong else DONE

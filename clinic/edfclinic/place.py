@@ -15,10 +15,26 @@ from .programs import accepted
 from .text import Trouble, Wrong, spell
 
 TAKEN, REFUSED, WORK, LOG, STORE = "taken", "refused", "work", "answers.log", "store.db"
+STILL_WRITTEN = "refused: it was taken before, and was still written to when receiving ended"
+MOST_BEGUN = 1_000      # refused files of which it is asked whether a later one begins with them
 
-# A line of the log: the host's time, our name of the file, the uploader's, the answer.
-Line = NamedTuple("Line", [("at", str), ("file", str), ("name", str), ("answer", str)])
 Card = NamedTuple("Card", [("name", str), ("fd", int)])
+
+
+class Line(NamedTuple):
+    """A line of the log, for each contents that were answered, in their order: the host's time, our
+    name of the file, the uploader's (spelled, without quotes), the answer, and how many bytes with
+    which sum were answered, which lines of 2.0.0 lack. What was accepted lies in `taken`. What was
+    refused has its line when it is first seen, and lies in `refused`, but what came behind 1,000
+    others, and what the next contents of that name begin with. What was taken out of the inbox and
+    changed later has a further line of the same name. One that still changes when its night goes is
+    STILL_WRITTEN, of no size: no file has what was written since."""
+    at: str
+    file: str
+    name: str
+    answer: str
+    size: str = ""
+    sum: str = ""
 
 
 def open_cards(paths: list[str]) -> list[Card]:
@@ -110,7 +126,7 @@ def places(config: Config, *roots: str) -> list[Place]:
 
 def read_log(path: str) -> list[Line]:
     parts = [line.split("\t") for line in (files.read(path) or "").split("\n")[:-1]]
-    return [Line(*part) for part in parts if len(part) == 4]
+    return [Line(*part) for part in parts if len(part) in (4, 6)]
 
 
 class Log:
@@ -122,8 +138,9 @@ class Log:
         os.fsync(self.fd)
         files.sync_folder(os.path.dirname(path))
 
-    def add(self, file: str, name: str, answer: str) -> Line:
-        line = Line(text.now(), file, name, answer)
+    def add(self, *told: str) -> Line:
+        """All of the line but its time."""
+        line = Line(text.now(), *told)
         data = "\t".join(line).encode() + b"\n"
         try:
             os.lseek(self.fd, self.size, os.SEEK_SET)
@@ -136,7 +153,21 @@ class Log:
         return line
 
 
-def unsolved(lines: list[Line]) -> list[Line]:
-    """What was refused, but for names of which a file was accepted later."""
-    last = {line.name: nth for nth, line in enumerate(lines) if accepted(line.answer)}
-    return [line for nth, line in enumerate(lines) if last.get(line.name, -1) < nth]
+def begun_by(refused: list[Line], later: Line, path: str) -> set[str]:
+    """Our names of those with all of which this later file begins. Many have the same head."""
+    sums = files.prefix_sums(path, {int(it.size) for it in refused[:MOST_BEGUN] if it.size})
+    return {it.file for it in refused[:MOST_BEGUN] if it.size and (int(it.size), it.sum) in sums
+            and (int(it.size) >= 256 or it.name == later.name)}
+
+
+def came_whole(lines: list[Line], folder: str) -> set[str]:
+    """The same of all that was accepted later; `folder` is tonight, or a morning."""
+    found, refused = set[str](), list[Line]()
+    for line in lines:
+        path = join(folder, TAKEN, line.file)
+        if not accepted(line.answer):
+            refused.append(line)
+        elif refused and files.exists(path):
+            found |= begun_by(refused, line, path)
+            refused = [it for it in refused if it.file not in found]
+    return found

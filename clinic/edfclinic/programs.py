@@ -8,6 +8,7 @@ import signal
 import subprocess
 import tempfile
 import time
+from bisect import bisect_right
 from contextlib import nullcontext, suppress
 from typing import IO, NamedTuple
 
@@ -18,12 +19,14 @@ from .text import Trouble
 SECONDS, BYTES_A_SECOND = 120, 500_000      # that a program has for a file
 MEMORY, WIDENED, MOST_RUNS = 4 << 30, 1 << 30, 500_000  # the last of a file, and of a night
 TOO_MANY = f"refused: it has more than {MOST_RUNS:,} gaps"
+TOO_WIDE = "refused: its texts would make the night larger than largest_export"
 SAID, HUGE = 1 << 28, (0, 1, -signal.SIGXFSZ)       # bytes that one says; where it writes too many
 Room = tuple[int, int]                      # bytes of a file that it writes, and of memory
 C_LIBRARY, PR_SET_PDEATHSIG = ctypes.CDLL(None), 1
 RUN = re.compile(r"\d+ records=\d+ first=(\S+) seconds=([\d.]+)(?: .*)?")
 HELD = re.compile(r"(\d+) records=\d+ first=\S+ patient=(\S*) investigation=(\S*)")
-OF_THE_FILE = re.compile(r"refused(?::| E[123]?\d\b)")
+OF_THE_FILE, NEW = re.compile(r"refused(?::| E[123]?\d\b)"), re.compile(r"accepted new=(\d+)")
+CONFLICTS = ("refused E30 ", "refused E31 ")
 Ran = NamedTuple("Ran", [("status", int), ("out", bytes), ("err", bytes), ("why", str)])
 # A stretch without a gap, in nanoseconds.
 Run = NamedTuple("Run", [("first", int), ("end", int)])
@@ -51,6 +54,10 @@ def begin(words: list[str], folder: str, out: int, err: IO[bytes], room: Room,
                             env={**os.environ, "EDFSTORE_CAUSES": "1"}, preexec_fn=limited)
 
 
+def said_in(file: IO[bytes], most: int) -> bytes:
+    return os.pread(file.fileno(), min(most, os.fstat(file.fileno()).st_size), 0)
+
+
 def ended(child: subprocess.Popen[bytes], seconds: float) -> int:
     with suppress(subprocess.TimeoutExpired):
         child.wait(seconds)
@@ -69,7 +76,7 @@ def run(words: list[str], folder: str, of: str, fits: tuple[int, ...] = (), out:
         status = ended(begin(words, folder, fd, err, room), limit(of))
         if out:
             os.fsync(fd)
-        told, why = os.pread(said.fileno(), SAID, 0), os.pread(err.fileno(), 1 << 20, 0)
+        told, why = said_in(said, SAID), said_in(err, 1 << 20)
     lines = text.spell_lines(why)[-2:] or [f"status {status}"]
     lines += [f"it was ended: {signal.strsignal(-status)}"] if status < 0 else []
     if fits and status not in fits:
@@ -92,6 +99,15 @@ def code_of(path: str) -> str:
     return text.spell(os.fsdecode(head[8:].split(b" ")[0])) if head[:8] == b"0       " else ""
 
 
+def bytes_a_record(path: str) -> int:
+    """Of a file of EDF, by the samples of its head; 0 where it is none."""
+    with files.opened(path) as fd:
+        count = os.pread(fd, 4, 252).strip()
+        fields = os.pread(fd, 8 * int(count), 256 + 216 * int(count)) if count.isdigit() else b""
+    samples = [fields[at:at + 8].strip() for at in range(0, len(fields), 8)]
+    return 2 * sum(int(it) for it in samples if it.isdigit())
+
+
 def outline(path: str) -> list[Run] | None:
     """The runs of a file, by time, of more than MOST_RUNS the first; none where it is refused."""
     (folder, name), runs = os.path.split(path), []
@@ -105,6 +121,18 @@ def outline(path: str) -> list[Run] | None:
         first = text.instant(found[1])
         runs.append(Run(first, first + text.nanoseconds(found[2])))
     return runs
+
+
+def missing(runs: list[Run], held: list[Run]) -> int:
+    """Nanoseconds of these runs that the others, which are in order, lack."""
+    lacks, ends = 0, [it.end for it in held]
+    for run in runs:
+        at, nth = run.first, bisect_right(ends, run.first)
+        while nth < len(held) and held[nth].first < run.end:
+            lacks += max(0, held[nth].first - at)
+            at, nth = held[nth].end, nth + 1
+        lacks += max(0, run.end - at)
+    return lacks
 
 
 def prepared(path: str, folder: str, recorder: Recorder) -> str:
@@ -133,7 +161,7 @@ class Session:
         self.child = begin(["edfserve", "--from", ".", store], folder, pipe, self.err, room, pipe)
 
     def why(self) -> str:
-        return "; ".join(text.spell_lines(os.pread(self.err.fileno(), 1 << 20, 0))[-2:])
+        return "; ".join(text.spell_lines(said_in(self.err, 1 << 20))[-2:])
 
     def take(self, path: str) -> str:
         name = os.path.relpath(path, self.folder)

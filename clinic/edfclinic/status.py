@@ -3,24 +3,34 @@ import os
 import re
 import subprocess
 import time
+from collections.abc import Iterator, Sequence
 from shutil import disk_usage
 from typing import Any
 
-from . import files, text
+from . import config as configs
+from . import files, nights, text
 from .config import Config
 from .place import Place
-from .text import DONE, LOOK, Trouble
+from .text import DONE, LOOK, Trouble, Wrong, named
 
 UNTOLD, ALARM_SECONDS = 300, 60     # after which nothing is known, or an alarm is ended
-LISTS, ACCEPTED = ("refused", "waiting", "left"), re.compile(r" accepted new=(\d+) known=(\d+)$")
+DAY, WEEK = 24 * 3600.0, 7 * 24 * 3600.0
+LISTS, ACCEPTED = ("refused", "waiting", "left"), re.compile(r"^accepted new=(\d+) known=(\d+)$")
+Cause = dict[str, str | None]
 HEAD = """<!doctype html><html lang="en"><meta charset="utf-8"><meta http-equiv="refresh"
 content="60"><title>Recorders</title>"""
 
 
-def state_of(config: Config, place: Place, told: dict[str, Any]) -> tuple[str, str]:
+def minutes_since(clock: int) -> int:
+    """Since this time of the day, in minutes after midnight, was last on this host's clock."""
     here = time.localtime()
-    (begin, end), now = config.watch, here.tm_hour * 60 + here.tm_min
-    is_watched = begin <= now < end if begin < end else now >= begin or now < end
+    return (here.tm_hour * 60 + here.tm_min - clock) % (24 * 60)
+
+
+def state_of(config: Config, place: Place, told: dict[str, Any]) -> tuple[str, str]:
+    begin, end = config.watch
+    watched = minutes_since(begin)
+    is_watched = watched < ((end - begin) % (24 * 60) or 24 * 60)
     unit = f"edfclinic-receive@{place.name}"
     age = text.seconds_since(told["told"]) if told else 0
     if not files.is_locked(place.session):
@@ -29,49 +39,93 @@ def state_of(config: Config, place: Place, told: dict[str, Any]) -> tuple[str, s
         return "unknown", f"nothing was told for 5 minutes: systemctl restart {unit}"
     if told["inbox"] or told["trouble"]:
         return "unknown", f"{told['inbox'] or told['trouble']}; if it lasts, ask the engineer"
-    silence = told["silence"] + age if told["last"] else 0
+    is_expected = config.recorders[place.name].expected
+    silence = told["silence"] + age if told["last"] else 60 * watched * is_expected
     if silence > config.silent and is_watched:
         return "silent", f"no file came for {silence / 60:.0f} minutes: look at the recorder"
     return ("alive" if told["last"] else "idle"), ""
 
 
+def causes_of(config: Config, place: Place, told: dict[str, Any]) -> Iterator[tuple[str, str]]:
+    """Why somebody must look, and what to do."""
+    name, recorder = place.name, config.recorder(place.name)
+    if full := told.get("full") or disk_usage(config.data).free < files.PIECE and "make room on disk":
+        yield "full", f"{full}; it goes on by itself"
+    if files.exists(place.morning) and not files.is_locked(place.changing):
+        yield "morning", f"call edfclinic morning {name} again, with the same --card FILE if a " \
+            "card was given"
+    if count := told.get("refused_count"):
+        yield "refused", f"{count} of its files: give its card to morning"
+    if count := told.get("left_count"):
+        yield "left", f"{count} in its inbox: its uploader must remove them"
+    if told.get("is_crowded"):
+        yield "left", "its inbox has more entries than are looked at: its uploader must remove some"
+    begun = told.get("begun")
+    if begun and text.seconds_since(begun) > 60 * minutes_since(recorder.ends):
+        yield "waiting", f"what came since {text.here(begun)} is not put away: " \
+            f"call edfclinic morning {name}"
+    for folder in nights.strays(place):
+        yield "rest", f"{folder} has files of patients who had no night: read its answers.log, " \
+            f"then edfclinic seen {name}/{os.path.basename(folder)} --why TEXT"
+    for it in told.get("written", [])[-1:]:
+        yield "written", f"{named('file', it['name'])} was taken at {text.here(it['answer'])} and " \
+            "is still written to: have the recorder write elsewhere and upload, or use .part"
+
+
 def recorder(config: Config, place: Place) -> dict[str, Any]:
     told = files.from_json(place.told) or {}
     state, why = state_of(config, place, told)
-    full = told.get("full") or disk_usage(config.data).free < files.PIECE and "make room on disk"
-    is_begun = files.exists(place.morning) and not files.is_locked(place.changing)
-    count, unsolved = told.get("left_count", 0), told.get("unsolved", 0)
-    causes = [(state, why), ("full", full and f"{full}; it goes on by itself"),
-              ("morning", is_begun and f"call edfclinic morning {place.name} again, with the "
-                           "same --card FILE if a card was given"),
-              ("refused", unsolved and f"{unsolved} of its files: give its card to morning"),
-              ("left", count and f"{count} in its inbox: its uploader must remove them")]
     numbers = ("accepted", "refused_minutes", "gap_minutes", *(f"{it}_count" for it in LISTS))
-    return {"state": state, "last": told.get("last"), "causes": [it for it in causes if it[1]],
+    return {"state": state, "last": told.get("last"),
+            "causes": [*([(state, why)] if why else []), *causes_of(config, place, told)],
             **{it: told.get(it, []) for it in LISTS}, **{it: told.get(it, 0) for it in numbers}}
 
 
-def status(config: Config, is_json: bool, is_html: bool, is_telling: bool) -> int:
-    free = min(disk_usage(it).free for it in (config.inboxes, config.data, config.nights))
-    recorders = {name: recorder(config, Place(config, name)) for name in config.recorders}
-    causes = [(name, *pair) for name, it in recorders.items() for pair in it.pop("causes")]
+def of_the_archive(config: Config, free: int) -> Iterator[tuple[str, str]]:
     if free < config.free_space:
-        causes += [(None, "free_space", f"{free / 1e9:.1f} GB are free: make room")]
+        yield "free_space", f"{free / 1e9:.1f} GB are free: make room"
+    last = files.from_json(os.path.join(config.data, "verify.json")) or {}
+    locks = [Place(config, it).changing for it in config.recorders]
+    begun = [os.stat(it).st_mtime for it in locks if files.exists(it)]      # by the first morning
+    age = text.seconds_since(last["at"]) if last else time.time() - min(begun, default=time.time())
+    if why := last.get("failed") or age > WEEK and "it did not run for a week":
+        yield "verify", f"{why}: call edfclinic verify, and ask the engineer"
     if config.backup:
         why = (files.from_json(os.path.join(config.data, "backup.json")) or {}).get("failed")
         why = why if os.path.ismount(config.backup) else f"{config.backup} is not mounted"
-        causes += [(None, "backup", f"{why}: mend that, then call edfclinic backup")] if why else []
-    told = [dict(zip(("recorder", "cause", "text"), it)) for it in causes]
-    found: dict[str, Any] = {"free_bytes": free, "recorders": recorders, "causes": told}
+        if why:
+            yield "backup", f"{why}: mend that, then call edfclinic backup"
+
+
+def look(config: Config) -> dict[str, Any]:
+    free = min(disk_usage(it).free for it in (config.inboxes, config.data, config.nights))
+    recorders = {name: recorder(config, Place(config, name)) for name in config.recorders}
+    causes = [(name, *pair) for name, it in recorders.items() for pair in it.pop("causes")]
+    causes += [(None, *pair) for pair in of_the_archive(config, free)]
+    return {"free_bytes": free, "recorders": recorders,
+            "causes": [dict(zip(("recorder", "cause", "text"), it)) for it in causes]}
+
+
+def status(config: Config, is_json: bool, is_html: bool, is_telling: bool) -> int:
+    try:
+        found = look(config)
+    except (Trouble, OSError) as why:
+        if is_telling:
+            tell(config.alarm, config.data, [cause_of("trouble", why)])
+        raise
     print(files.as_json(found).decode() if is_json else "\n".join(lines(found)))
     if is_html:
         files.replace(os.path.join(config.nights, "status.html"), page(found).encode())
     if is_telling:
-        tell(config, told)
-    return LOOK if causes else DONE
+        tell(config.alarm, config.data, found["causes"])
+    return LOOK if found["causes"] else DONE
 
 
-def cause(it: dict[str, str | None]) -> str:
+def cause_of(what: str, why: Exception) -> Cause:
+    return {"recorder": None, "cause": what, "text": text.why(why).removeprefix(f"{what}: ")}
+
+
+def cause(it: Cause) -> str:
     return f"{it['recorder'] or 'all'} {it['cause']}: {it['text']}"
 
 
@@ -81,9 +135,10 @@ def lines(found: dict[str, Any]) -> list[str]:
         counts = ", ".join(f"{it[f'{kind}_count']} {kind}" for kind in LISTS) + " alone"
         said.append(f"{name} {it['state']}: {it['accepted']} accepted, {counts}, "
                     f"{it['gap_minutes']} minutes of gaps")
-        last = f"  last: {it['last']['name']} {it['last']['answer']}" if it["last"] else ""
-        said += [ACCEPTED.sub(r": accepted, \1 data records new, \2 known", last)] * bool(last)
-        said += [f"  {kind}: {of['name']} {of['answer']}" for kind in LISTS for of in it[kind]]
+        said += [f"  {kind}: {named('file', of['name'])}: " + ACCEPTED.sub(
+            r"accepted, \1 data records new, \2 known", of["answer"])
+            for kind in ("last", *LISTS) for of in (it[kind] or [] if kind != "last"
+                                                    else [it["last"]] * bool(it["last"]))]
     said += [f"look: {cause(it)}" for it in found["causes"]]
     return said + [f"{found['free_bytes'] / 1e9:.1f} GB are free"]
 
@@ -97,19 +152,35 @@ def page(found: dict[str, Any]) -> str:
         f"<p>{found['free_bytes'] / 1e9:.1f} GB are free.\n"
 
 
-def tell(config: Config, causes: list[dict[str, str | None]]) -> None:
-    """Runs `alarm` once for each new cause; one that it failed to tell is new the next time."""
-    path = os.path.join(config.data, "told.json")
-    before, known, failed = files.from_json(path) or [], [], ""
-    for it in causes:
+def tell(alarm: Sequence[str], data: str, causes: list[Cause]) -> None:
+    """Runs `alarm` for each cause, once a day as long as it lasts. One that it failed to tell is
+    new the next time. So is each where nobody is told."""
+    path, failed, known = os.path.join(data, "told.json"), "", []
+    before = files.from_json(path)
+    told = before["told"] if isinstance(before, dict) else []
+    for it in causes if alarm else []:
+        key = [it["recorder"], it["cause"]]
+        last = next((of[2] for of in told if of[:2] == key), "")
         try:
-            if config.alarm and [it["recorder"], it["cause"]] not in before:
-                subprocess.run(config.alarm, input=f"edfclinic: {cause(it)}\n".encode(),
+            if not last or abs(text.seconds_since(last)) >= DAY:
+                files.replace(path, files.as_json(before))      # else it were told each minute
+                subprocess.run(alarm, input=f"edfclinic: {cause(it)}\n".encode(),
                                check=True, timeout=ALARM_SECONDS, stdout=subprocess.DEVNULL)
-            known.append([it["recorder"], it["cause"]])
+                last = text.now()
+            known.append([*key, last])
         except (OSError, subprocess.SubprocessError) as why:
             failed = text.why(why)
-    if known != before:
-        files.replace(path, files.as_json(known))
+    if before != {"alarm": [*alarm], "told": known}:
+        files.replace(path, files.as_json({"alarm": [*alarm], "told": known}))
     if failed:
         raise Trouble(f"alarm: {failed}")
+
+
+def tell_wrong(path: str, why: Wrong) -> None:
+    """Of a config that can't be read: by its alarm, where that can be, else by the last one."""
+    given = configs.readable(path)
+    data = given.get("data", Config.data)
+    if os.geteuid() and files.exists(data) and os.stat(data).st_uid == os.geteuid():
+        before = files.from_json(os.path.join(data, "told.json"))
+        last = before["alarm"] if isinstance(before, dict) else []
+        tell(given.get("alarm", last), data, [cause_of("config", why)])

@@ -3,14 +3,15 @@ import errno
 import os
 import re
 import sys
+from contextlib import suppress
 from datetime import datetime, timedelta, timezone
 
 FULL = (errno.ENOSPC, errno.EDQUOT)
 SECOND, MINUTE, HOUR = 10**9, 60 * 10**9, 3600 * 10**9
 EPOCH = datetime(1970, 1, 1)
-# Control bytes, the backslash, marks that turn the direction, separators, and what is no UTF-8.
-UNSAFE = re.compile("[\x00-\x1f\x7f-\x9f\\\\\u061c\u200e\u200f\u2028-\u202e\u2066-\u2069"
-                    "\ud800-\udfff]")
+# Control bytes, marks that turn the direction, separators, what is no UTF-8, what nobody sees.
+UNSEEN = "\x00-\x1f\x7f-\x9f\xad\u061c\u200b-\u200f\u2028-\u202e\u2060-\u2069\ufeff\ud800-\udfff"
+UNSAFE, UNQUOTED = re.compile(rf"[\\{UNSEEN}]"), re.compile(f'["{UNSEEN}]')
 AT = "%Y-%m-%dT%H:%M:%SZ"
 DONE, LOOK, WRONG, TROUBLE = 0, 1, 2, 3     # what a command ends with
 
@@ -29,8 +30,17 @@ class Wrong(Exception):
     status = WRONG
 
 
+def bytes_of(found: re.Match[str]) -> str:
+    return "".join(f"\\x{byte:02x}" for byte in os.fsencode(found[0]))
+
+
 def spell(text: str) -> str:
-    return UNSAFE.sub(lambda it: "".join(f"\\x{byte:02x}" for byte in os.fsencode(it[0])), text)
+    return UNSAFE.sub(bytes_of, text)
+
+
+def named(word: str, name: str) -> str:
+    """A name that was spelled, which an uploader chose, in quotes behind a word of ours."""
+    return f'{word} "{UNQUOTED.sub(bytes_of, name)}"'
 
 
 def spell_lines(raw: bytes) -> list[str]:
@@ -41,11 +51,12 @@ def why(error: Exception) -> str:
     if isinstance(error, OSError) and error.strerror:
         room = "; make room" if error.errno in FULL else ""
         return spell(f"{os.fsdecode(error.filename or 'trouble')}: {error.strerror}{room}")
-    return spell(str(error))
+    return spell(str(error) or type(error).__name__)
 
 
 def say(text: str) -> None:
-    print(text, file=sys.stderr, flush=True)
+    with suppress(OSError):
+        print(text, file=sys.stderr, flush=True)
 
 
 def nanoseconds(text: str) -> int:
@@ -73,6 +84,14 @@ def now() -> str:
     return datetime.now(timezone.utc).strftime(AT)
 
 
+def moment(told: str) -> datetime:
+    return datetime.strptime(told, AT).replace(tzinfo=timezone.utc)
+
+
 def seconds_since(told: str) -> float:
-    then = datetime.strptime(told, AT).replace(tzinfo=timezone.utc)
-    return (datetime.now(timezone.utc) - then).total_seconds()
+    return (datetime.now(timezone.utc) - moment(told)).total_seconds()
+
+
+def here(told: str) -> str:
+    """By this host's clock, as everybody reads it."""
+    return moment(told).astimezone().strftime("%H:%M on %Y-%m-%d")
