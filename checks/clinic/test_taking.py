@@ -106,6 +106,29 @@ def test_what_is_refused_and_waits_when_the_morning_comes_leaves_the_inbox(clini
     clinic.stop(child)
 
 
+def test_a_file_that_may_not_be_read_is_told_as_long_as_it_lies_there(clinic: Clinic) -> None:
+    clinic.write_config({}, still="1 s")
+    child = clinic.receive()
+    path = clinic.put("a.edf", NIGHT.piece())
+    path.chmod(0o600)
+    clinic.until(lambda: clinic.told().get("left_count"), "it is told")
+    for _ in range(60):
+        assert clinic.told()["left"] == [{"name": "a.edf", "answer": "can't be read: no permission"}]
+        time.sleep(0.05)
+    path.chmod(0o640)
+    clinic.until_taken()
+    clinic.stop(child)
+
+
+def test_a_file_that_fits_into_no_night_is_left(clinic: Clinic) -> None:
+    clinic.write_config({}, largest_night=f"{len(NIGHT.piece())} B")
+    child = clinic.receive()
+    clinic.put("large.edf", NIGHT.piece() + b"x")
+    clinic.until(lambda: clinic.told().get("left_count"), "it is told")
+    assert clinic.told()["left"][0]["answer"].endswith(" bytes, more than largest_night")
+    clinic.stop(child)
+
+
 def test_a_larger_file_is_left_and_a_full_night_takes_no_more(clinic: Clinic) -> None:
     size = len(NIGHT.piece())
     clinic.write_config({}, largest_file=f"{size} B", largest_night=f"{2 * size} B")
