@@ -315,8 +315,8 @@ def test_states_and_causes(clinic: Clinic) -> None:
     assert found["state"] in ("alive", "silent")
     assert {**found, "last": None, "state": ""} == {
         "state": "", "accepted": 1, "last": None, "refused": [], "waiting": [], "left": [],
-        "refused_count": 0, "waiting_count": 0, "left_count": 0, "refused_minutes": 0,
-        "gap_minutes": 0.0}
+        "written": [], "refused_count": 0, "waiting_count": 0, "left_count": 0,
+        "written_count": 0, "refused_minutes": 0, "gap_minutes": 0.0}
     assert (found["last"]["name"], found["last"]["answer"]) == (
         "a.edf", "accepted new=40 known=0")
     datetime.strptime(found["last"]["at"], "%Y-%m-%dT%H:%M:%SZ")

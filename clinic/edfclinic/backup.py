@@ -54,4 +54,5 @@ def backup(config: Config) -> int:
         failed = why.strerror or "trouble" if isinstance(why, OSError) else text.why(why)
         raise Trouble(text.why(why)) from None
     finally:
-        files.replace(join(config.data, "backup.json"), files.as_json({"at": text.now(), "failed": failed}))
+        told = {"at": text.now(), "failed": failed}
+        files.replace(join(config.data, "backup.json"), files.as_json(told))

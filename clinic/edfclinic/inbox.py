@@ -1,5 +1,5 @@
-"""The inbox of a recorder, whose uploader is hostile. What was taken out of it stays open for a day:
-who writes it may go on, and what is written so is seen."""
+"""The inbox of a recorder, whose uploader is hostile. What was taken out of it stays open for a
+day: who writes it may go on, and what is written so is seen."""
 import os
 import stat
 import time
@@ -34,10 +34,10 @@ class Seen:
     """A file as it was when it was listed, and what became of it since."""
     name: str
     key: Key
+    since: float = field(default_factory=time.monotonic)
     has_hole: bool = False
     left: str = ""              # why it is left alone, as it was listed,
     unread: str = ""            # or as it was opened
-    since: float = field(default_factory=time.monotonic)
     line: Line | None = None    # of the last contents of this name that tonight has answered
     is_other: bool = False      # it is not what these were the beginning of
     kept: Line | None = None    # of these contents, which are kept
@@ -83,6 +83,7 @@ class Inbox:
             yield fd
 
     def listed(self) -> Iterator[Seen]:
+        now = time.monotonic()      # of all: who comes at once is taken by name
         with self.folder() as fd, os.scandir(fd) as entries:
             for name in islice((it.name for it in entries), MOST):
                 if name == ASIDE:       # which a kill left
@@ -92,7 +93,7 @@ class Inbox:
                 with suppress(FileNotFoundError):
                     status = os.stat(name, dir_fd=fd, follow_symlinks=False)
                     has_hole = status.st_blocks * 512 < status.st_size
-                    yield Seen(name, key_of(status), has_hole, self.why_left(status))
+                    yield Seen(name, key_of(status), now, has_hole, self.why_left(status))
             self.is_crowded = next(entries, None) is not None
 
     def look(self) -> list[Seen]:

@@ -93,23 +93,19 @@ class Taking:
         still = self.config.still * (1 if is_last else 2**it.again)
         is_fit = now >= it.not_before and key[1] <= self.config.largest_file
         if it.is_changed and is_fit and now - it.since >= still:
-            self.take_again(it)
+            try:
+                line = self.take(it)
+                is_more = line is not it.kept
+                it.kept = it.line = line
+                it.is_written, it.again = it.is_written or is_more, it.again + is_more
+                it.is_changed, it.answer, it.full = False, "", ""
+            except Later:
+                it.since = time.monotonic()
+            except (Trouble, OSError) as why:
+                self.put_off(it, why)
         if it.is_changed and is_last:
             line = Line("", self.tonight.name(), text.spell(it.name), STILL_WRITTEN)
             self.tonight.add(Came(self.tonight.tell(line)))
-
-    def take_again(self, it: TakenOut) -> None:
-        try:
-            line = self.take(it)
-        except Later:
-            it.since = time.monotonic()
-        except (Trouble, OSError) as why:
-            self.put_off(it, why)
-        else:
-            if line is not it.kept:
-                it.kept = it.line = line
-                it.is_written, it.again = True, it.again + 1
-            it.is_changed, it.answer, it.full = False, "", ""
 
     def take(self, it: Seen) -> Line:
         """Copies it, has it answered, tells that and keeps it, unless it has the same contents."""
@@ -170,9 +166,10 @@ class Taking:
         pending = {it.line.file for it in here if it.line and (it.answer or not it.is_other)}
         refused = [it for file, it in tonight.lacking.items() if file not in pending]
         lists = {"refused": [(it.line.name, it.line.answer) for it in refused],
-                 "left": inbox.left(), "waiting": [(text.spell(it.name), it.answer) for it in waiting],
-                 "written": [(text.spell(it.name), f"taken at {text.here(it.at)}")
-                             for it in inbox.taken_out if it.is_written]}
+                 "waiting": [(text.spell(it.name), it.answer) for it in waiting],
+                 "left": inbox.left(), "written": [
+                     (text.spell(it.name), f"taken at {text.here(it.at)}")
+                     for it in inbox.taken_out if it.is_written]}
         told: dict[str, Any] = {
             "accepted": sum(accepted(it.answer) for it in lines),
             "begun": next((it.at for it in lines if accepted(it.answer)), ""),

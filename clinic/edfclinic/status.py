@@ -143,8 +143,8 @@ def cause(it: Cause) -> str:
 def lines(found: dict[str, Any]) -> list[str]:
     said = []
     for name, it in found["recorders"].items():
-        said.append(f"{name} {it['state']}: {it['accepted']} accepted, {it['refused_count']} refused"
-                    f", {it['waiting_count']} waiting, {it['left_count']} left alone, "
+        said.append(f"{name} {it['state']}: {it['accepted']} accepted, {it['refused_count']} "
+                    f"refused, {it['waiting_count']} waiting, {it['left_count']} left alone, "
                     f"{it['gap_minutes']} minutes of gaps")
         told = [("last", it["last"])] if it["last"] else []
         told += [(kind, of) for kind in LISTS for of in it[kind]]

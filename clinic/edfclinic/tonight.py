@@ -36,10 +36,14 @@ class Tonight:
     def __init__(self, recorder: Recorder, place: Place):
         self.recorder, self.place = recorder, place
         files.make_folder(place.tonight)
-        files.remove_tree(self.path(WORK))
         for name in (WORK, TAKEN, REFUSED):
             files.make_folder(self.path(name))
         self.lines = read_log(self.path(LOG))
+        for line in self.lines[-1:]:        # where a kill came between it and its file
+            copied = self.path(WORK, line.file)
+            if files.exists(copied) and not files.exists(self.kept_as(line)):
+                files.rename(copied, self.kept_as(line))
+        self.clear_work()
         self.known = {it[2:]: it for it in self.lines if not accepted(it.answer)}
         names = [(of, it) for of in (TAKEN, REFUSED) for it in files.names(self.path(of))]
         self.bytes = sum(os.stat(self.path(*it)).st_size for it in names)
