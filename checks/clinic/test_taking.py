@@ -194,8 +194,8 @@ def test_a_killed_receive_loses_nothing_and_takes_nothing_away(clinic: Clinic) -
 def test_what_was_told_is_kept_where_its_name_is_used_again_behind_a_kill(clinic: Clinic) -> None:
     first, second, calls = NIGHT.piece(0, 20), NIGHT.piece(20, 40), clinic.folder / "calls"
     os.chmod(clinic.folder, 0o777)
-    child = clinic.receive(calls=str(calls))
     clinic.put("a.edf", first)
+    child = clinic.receive(calls=str(calls))
     clinic.until_taken()
     clinic.stop(child)
     kept, = [nth for nth, line in enumerate(calls.read_text().splitlines(), 1)

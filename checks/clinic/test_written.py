@@ -41,6 +41,7 @@ def test_what_is_written_after_it_was_taken_is_taken_again(clinic: Clinic, more:
 
 
 def test_what_is_still_written_when_the_morning_comes_is_a_look(clinic: Clinic) -> None:
+    clinic.write_config({}, still="2 s")        # for so long its writer may be kept waiting
     child = clinic.receive()
     path = clinic.put("CURRENT.EDF", NIGHT.piece())
     with open(path, "ab") as writer:

@@ -56,7 +56,7 @@ class Taking:
                 return
             if not it.kept:
                 it.kept = it.line = self.take(it)
-                it.answer = it.kept.answer if it.is_refused else ""
+                it.answer, it.full = it.kept.answer if it.is_refused else "", ""
             if not it.is_refused or time.monotonic() - it.since >= self.config.refuse:
                 self.inbox.take_out(it)
         except Later as why:
