@@ -7,7 +7,7 @@ from .config import Recorder
 from .files import join
 from .inbox import Later
 from .place import LOG, REFUSED, STORE, TAKEN, WORK, Line, Log, Place, begun_by, read_log
-from .programs import CONFLICTS, MOST_RUNS, Run, accepted, missing
+from .programs import CONFLICTS, Run, accepted, missing
 
 KEPT = 1_000                # refused files
 STAMP = 32                  # bytes by which an export may widen each data record besides
@@ -95,7 +95,7 @@ class Tonight:
     def why_not(self, came: Came, largest: int) -> str:
         """The refusal of what a morning might not put away. Each data record of an export has the
         room of the widest, and those of other signals are of another export."""
-        if sum(map(len, self.runs.values())) + len(came.runs) > MOST_RUNS:
+        if sum(map(len, self.runs.values())) + len(came.runs) > programs.MOST_RUNS:
             return programs.TOO_MANY
         signals, width = came.widths
         held, widest = self.records.get((came.code, signals), (0, 0))
@@ -116,7 +116,7 @@ class Tonight:
             for file in begun_by(refused, line, self.kept_as(line)):
                 self.lacking.pop(file)
         else:
-            is_known = not came.runs or MOST_RUNS >= len(came.runs) + sum(
+            is_known = not came.runs or programs.MOST_RUNS >= len(came.runs) + sum(
                 len(it.runs) for it in self.lacking.values())
             self.lacking[line.file] = came if is_known else came._replace(runs=())
 
