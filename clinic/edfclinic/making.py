@@ -9,8 +9,8 @@ from typing import Any
 from . import files, programs, text
 from .config import Recorder
 from .files import join
-from .nights import (FACTS, FORGOTTEN, NIGHT, NONE, PIECES, REPORT, THINNED, WHOSE, folders, is_cut, line,
-                     read_facts, span, sums, write_sums)
+from .nights import (FACTS, FORGOTTEN, NIGHT, NONE, PIECES, REPORT, THINNED, WHOSE, folders, is_cut,
+                     line, read_facts, span, sums, write_sums)
 from .place import LOG, REFUSED, TAKEN, Place
 from .text import Trouble, named
 
