@@ -15,6 +15,7 @@ from checks.clinic.recordings import Recording
 from checks.lib.measure import done
 
 PLACES = 24             # each before and behind; with --long all
+AT_ONCE = {"morning.RUNS": 0}   # no receive is waited for: as many calls each time
 FIRST = Recording(records=40, start=datetime(2026, 11, 25, 22, 0))
 SECOND = Recording(records=60, start=datetime(2026, 11, 26, 22, 0))
 
@@ -53,7 +54,7 @@ def ran_through(clinic: Clinic, words: tuple[Any, ...],
     calls, through = clinic.folder / "calls", copied(clinic, clinic.folder / "through")
     calls.touch()
     calls.chmod(0o666)
-    ran = through.run(*words, calls=str(calls))
+    ran = through.run(*words, calls=str(calls), set=AT_ONCE)
     assert ran.status == status, ran
     return through, calls.read_text().splitlines()
 
@@ -83,7 +84,7 @@ def test_killed_at_any_call_it_makes_the_same(clinic: Clinic, is_long: bool) -> 
     for nth in chosen:
         for side in ("before", "behind"):
             other = copied(clinic, clinic.folder / f"{nth}{side}")
-            ran = other.run(*words, kill=[nth, side])
+            ran = other.run(*words, kill=[nth, side], set=AT_ONCE)
             killed += ran.status == -signal.SIGKILL
             again(other, words)
             assert outcome(other) == expected, f"killed {side} {lines[nth - 1]}"
@@ -99,7 +100,7 @@ def test_killed_where_the_morning_ends(clinic: Clinic) -> None:
     last = max(nth for nth, line in enumerate(lines, 1) if line.split()[1] == "rename")
     for nth in range(last - 3, last + 4):
         other = copied(clinic, clinic.folder / f"end{nth}")
-        other.run(*words, kill=[nth, "behind"])
+        other.run(*words, kill=[nth, "behind"], set=AT_ONCE)
         again(other, words)
         assert outcome(other) == expected, f"killed behind {lines[nth - 1]}"
 
@@ -114,10 +115,14 @@ def test_what_is_of_no_night_is_put_away_before_a_night_is_told(clinic: Clinic) 
     through, lines = ran_through(clinic, words)
     made = [nth for nth, line in enumerate(lines, 1) if line.endswith("/.new") and "rename" in line]
     assert len(made) == 2 and (through.nights / rest).read_bytes() == STRANGE
+    report = (through.archive()[0] / "report.txt").read_text()
+    assert "is missing" not in report and "look: " not in report
+    assert "files of patients who had no night are in replaced/2026-11-26.rest: compare" in report
     for nth in (made[0], made[0] + 1, made[1] - 1, made[1]):
         for side in ("before", "behind"):
             other = copied(clinic, clinic.folder / f"{nth}{side}")
-            assert other.run(*words, kill=[nth, side]).status == -signal.SIGKILL
+            ran = other.run(*words, kill=[nth, side], set=AT_ONCE)
+            assert ran.status == -signal.SIGKILL
             assert (other.nights / rest).exists() or not other.archive()
             assert (other.nights / rest).exists() == ((nth, side) != (made[0], "before"))
             said = other.done(*words, status=1)
@@ -134,7 +139,8 @@ def test_forget_leaves_the_folder_that_an_unfinished_morning_will_make(clinic: C
     _, lines = ran_through(clinic, ("morning", "r01"))
     planned = [nth for nth, line in enumerate(lines, 1) if line.endswith("rename " + str(
         clinic.folder / "through/data/r01/morning/.plan.json.new"))]
-    clinic.run("morning", "r01", kill=[planned[0], "behind"])
+    clinic.run("morning", "r01", kill=[planned[0], "behind"], set=AT_ONCE)
+    assert (clinic.data / "r01/morning/plan.json").exists()
     clinic.done("forget", "S-0118", "--yes", status=1)
     clinic.done("morning", "r01", status=1)
     assert {STRANGE, b"junk", other, third} <= {it.read_bytes() for it in

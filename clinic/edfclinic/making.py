@@ -132,8 +132,9 @@ def told(facts: dict[str, Any], seen: Sequence[str] = (), is_clear: bool = True)
              f", was {it['answer']}: none of it is put away")
              for nth, it in enumerate(facts["card"], 1) if it["name"] != FORGOTTEN]
     looks = [f"look: {it}" for it in facts["look"]] + [f"answered: {it}" for it in seen]
-    clear = "nothing that came before morning was called is missing: " \
-        "compare begin, end and gaps with the paper"
+    clear = f"files of patients who had no night are in {facts['rest']}" if "rest" in facts else \
+        "nothing that came before morning was called is missing"
+    clear += ": compare begin, end and gaps with the paper"
     same = [f"{it['night']} is there too, of this code and evening, and "
             f"{USE[it['has_all'], it['all_here']]}; keep both"
             for it in facts.get("same_night", ())]
@@ -149,9 +150,8 @@ def report(folder: str, facts: dict[str, Any]) -> str:
               ] * (is_there and THINNED not in facts)
     lines += ["it was thinned: what came, its cards, view.edf and night.svg were removed"
               ] * (THINNED in facts)
-    lines += [f"{named('file', it['name'])}: {refused(it)}" for it in facts["refused"]]
-    lines += [f"{named('file', it['name'])} differs from the card: {refused(it)}"
-              for it in facts["differs"]]
+    lines += [f"{named('file', it['name'])}{differs}: {refused(it)}" for kind, differs in (
+        ("refused", ""), ("differs", " differs from the card")) for it in facts[kind]]
     pieces = [["compare", NIGHT, it] for it in files.names(folder) if it.startswith(PIECES)]
     for words in [["list", NIGHT], *pieces] if is_there else []:
         ran = programs.run(["edfruns", *words], folder, join(folder, NIGHT))

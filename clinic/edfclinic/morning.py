@@ -85,8 +85,9 @@ class Morning:
         self.copy_cards(cards)
         planning = Planning(self.recorder, self.place)
         with files.whole_or_none(planning.work):
-            plan = planning.plan([it for _, folder in self.known for it in nights.span_of(folder)],
-                                 self.waiting)
+            known = [nights.read_facts(folder) for _, folder in self.known]
+            plan = planning.plan([(it["night"][:10], nights.span(it)) for it in known
+                                  if "first" in it], self.waiting)
         if plan["nights"]:
             files.replace(join(self.place.morning, PLAN), files.as_json(plan))
             return self.put_away(plan)

@@ -65,12 +65,6 @@ def span(facts: dict[str, Any]) -> Run:
     return Run(text.instant(facts["first"]), text.instant(facts["last"]))
 
 
-def span_of(folder: str) -> list[tuple[str, Run]]:
-    """Of which evening it is, from when to when; nothing where nobody knows."""
-    facts = read_facts(folder)
-    return [(facts["night"][:10], span(facts))] if "first" in facts else []
-
-
 def sums(folder: str) -> dict[str, str]:
     written = files.read(join(folder, SUMS)) or ""
     return {it[66:]: it[:64] for it in written.split("\n") if it[64:66] == "  "}

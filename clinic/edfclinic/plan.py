@@ -222,7 +222,11 @@ class Planning:
             part.facts["look"] += [f"{len(refused)} files were refused, of which {MOST_NAMED} were "
                                    f"looked at: see the {LOG} of the first night of this morning"
                                    ] * (len(refused) > MOST_NAMED)
-        return [giving.rest] if giving.rest.facts["log"] else []
+        if not giving.rest.facts["log"]:
+            return []
+        for part in parts:
+            part.facts["rest"] = giving.rest.night
+        return [giving.rest]
 
     def has_all(self, file: File) -> bool:
         return any(it.patient == file.code and not programs.run(
