@@ -30,14 +30,16 @@ WRONG: dict[str, tuple[list[tuple[str, str, str]], tuple[str, ...]]] = {
     "does not see that a writer goes on": ([
         ("inbox.py", "if os.fstat(fd).st_ino == entry.key[0]:", "if False:")], ("pauses",)),
     "gives a refused file to the first night": ([
-        ("giving.py", "own = own if own or file.code not in (\"\", \"X\") else self.parts",
-         "own = own or self.parts")], ("other person",)),
+        ("giving.py", "return self.rest if is_strange else own[0]",
+         "return (own or self.parts)[0]")], ("other person",)),
     "forgets by folder": ([
         ("forget.py", "*nights.sums(folder)} - {*rest, LOG, SUMS, WHOSE}",
          "*nights.sums(folder)} - {LOG, SUMS, WHOSE}")], ("other person", "wrong piece")),
     "lays each card with the first night": ([
         ("giving.py", "        own = self.owners(file)\n        nth =",
-         "        own = self.parts[:1]\n        nth =")], ("other person", "other card")),
+         "        own = self.parts[:1]\n        nth ="),
+        ("giving.py", "return self.rest if is_strange else own[0]",
+         "return own[0] if own else self.rest")], ("other person", "other card")),
     "says that a card may be erased whatever waits": ([
         ("morning.py", "said = making.told(made, (), not self.looks)",
          "said = making.told(made, (), True)")], ("left",)),
