@@ -84,11 +84,12 @@ class Giving:
                 it.whose[name] = of
         if part is self.rest:
             minutes = text.minutes(sum(it.end - it.first for it in file.runs or ()))
+            whose = "has code X, which is nobody's, and no night" if file.code == "X" else \
+                f"is of patient {file.code}, who has no night"
             part.facts["log"].append(list(line))
             part.facts["look"].append(
-                f"{named('file', file.name)}, {file.answer}, is of patient {file.code}, who has no "
-                f"night of this morning: it is in {part.night}"
-                + f", and has {minutes} minutes" * bool(file.runs))
+                f"{named('file', file.name)}, {file.answer}, {whose} of this morning: it is in "
+                f"{part.night}" + f", and has {minutes} minutes" * bool(file.runs))
         return part
 
     def tell_others(self, what: str, own: list[Part], part: Part, why: str) -> None:
