@@ -14,7 +14,7 @@ use edf_fragment::Output;
 use std::alloc::{AllocError, Global};
 
 /// The version, as `--version` prints it. No other place of the repository has it.
-pub const VERSION: &str = "2.0.1-dev";
+pub const VERSION: &str = "2.0.1";
 
 /// A command line asks for nothing.
 #[derive(Debug, Drop, thiserror::Error)]
