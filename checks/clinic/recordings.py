@@ -9,7 +9,6 @@ from typing import Any
 
 from checks.lib.edf import Header, Signal, annotations_signal, data_record, keeping, tal
 
-ANNOTATION_SAMPLES = 20
 EPOCH = datetime(1970, 1, 1)
 Held = tuple[int, bytes]        # a data record: its start, its samples
 
@@ -25,6 +24,7 @@ class Recording:
     samples: tuple[int, ...] = (4, 2)
     seed: str = "r01"
     startdate: str = ""         # as the fields have it, where it is not the day of `start`
+    texts: int = 20             # samples of the annotations signal
 
     def at(self, nth: int) -> datetime:
         return self.start + timedelta(seconds=self.seconds * nth)
@@ -46,7 +46,7 @@ class Recording:
         day = (self.startdate or at.strftime("%d-%b-%Y")).upper()
         short = datetime.strptime(day.title(), "%d-%b-%Y").strftime("%d.%m.%y")
         signals = [Signal(f"EEG {n}", samples=str(size)) for n, size in enumerate(self.samples)]
-        return Header((*signals, annotations_signal(ANNOTATION_SAMPLES)), short,
+        return Header((*signals, annotations_signal(self.texts)), short,
                       at.strftime("%H.%M.%S"), self.patient,
                       f"Startdate {day} {self.investigation} T3 REC5", reserved, count,
                       str(self.seconds))
