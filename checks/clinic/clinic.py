@@ -248,9 +248,9 @@ class Clinic:
         """Till receive tells these values, True for any but an empty one; then what it tells."""
         def is_so() -> bool:
             told = self.told()
-            return bool(told) and all(bool(told[key]) if value is True else told[key] == value
-                                      for key, value in wanted.items())
-        self.until(is_so, f"{wanted or 'a first look'}")
+            return bool(told) and all(bool(told.get(key)) if it is True else told.get(key) == it
+                                      for key, it in wanted.items())
+        self.until(is_so, f"{wanted or 'a first word'}")
         return self.told()
 
     def until_answered(self, count: int) -> None:

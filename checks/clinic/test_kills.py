@@ -1,18 +1,21 @@
-"""`morning` is killed before and behind its calls that change the file system, and begun again: the
-nights are the same, byte for byte, as of one that ran through."""
+"""Commands are killed before and behind their calls that change the file system, and begun again:
+the nights are the same, byte for byte, as of one that ran through."""
 import random
 import shutil
 import signal
 import time
 from datetime import datetime
-from pathlib import Path
+from itertools import product
 from typing import Any
+
+import pytest
 
 from checks.clinic.clinic import Clinic, tree
 from checks.clinic.recordings import Recording
-from checks.lib.measure import done
+from checks.clinic.test_archive import two_patients
 
 PLACES = 24             # each before and behind; with --long all
+SIDES = "before", "behind"
 FIRST = Recording(records=40, start=datetime(2026, 11, 25, 22, 0))
 SECOND = Recording(records=60, start=datetime(2026, 11, 26, 22, 0))
 
@@ -28,16 +31,6 @@ def evening(clinic: Clinic) -> tuple[Any, ...]:
     return "morning", "r01", "--card", card
 
 
-def copied(clinic: Clinic, folder: Path) -> Clinic:
-    """The same clinic in another folder."""
-    folder.mkdir()
-    other = Clinic(folder, clinic.programs, clinic.source)
-    for name in ("data", "nights"):
-        shutil.rmtree(folder / name)
-        done("cp", "-a", clinic.folder / name, folder)
-    return other
-
-
 def outcome(clinic: Clinic) -> dict[str, tuple[str, bytes]]:
     """The nights, and what is left of the morning."""
     left = {path: data for path, data in tree(clinic.data / "r01").items()
@@ -49,74 +42,79 @@ def again(clinic: Clinic, words: tuple[Any, ...]) -> None:
     """Begins it again, as often as it says that it isn't done."""
     for _ in range(3):
         ran = clinic.run(*words)
-        assert ran.status in (0, 1), ran
+        assert ran.status in (0, 1) or ran.status == 2 and words[0] == "recode", ran
         if b"call again" not in ran.out:
             return
     raise AssertionError("it is never done")
 
 
+class Through:
+    """A command that ran through, in a copy of the clinic: its calls, and what it left."""
+    def __init__(self, clinic: Clinic, words: tuple[Any, ...], status: int = 1):
+        self.clinic, self.words, copied = clinic, words, clinic.copied("through")
+        self.calls = copied.calls(*words, status=status, alone=True)
+        self.left = outcome(copied)
+
+    def assert_same_where_killed(self, nth: int, side: str) -> None:
+        other = self.clinic.copied(f"{nth}{side}")
+        assert other.run(*self.words, kill=[nth, side]).status == -signal.SIGKILL
+        again(other, self.words)
+        assert outcome(other) == self.left, f"killed {side} {self.calls[nth - 1]}"
+        shutil.rmtree(other.folder)
+
+
 def test_killed_at_any_call_it_makes_the_same(clinic: Clinic, is_long: bool) -> None:
-    words, calls = evening(clinic), clinic.folder / "calls"
-    through = copied(clinic, clinic.folder / "through")
-    calls.touch()
-    calls.chmod(0o666)
-    assert through.run(*words, calls=str(calls)).status == 1
-    expected = outcome(through)
+    through = Through(clinic, evening(clinic))
     first, second = "r01/2026-11-25-S-0118", "r01/2026-11-26-S-0118"
     assert {f"{first}/night.edf", f"{first}/pieces.edf", f"{first}/refused/000004.edf",
-            f"{second}/night.edf", f"{second}/taken/000003.edf"} <= set(expected)
-    lines = calls.read_text().splitlines()
-    assert len(lines) >= 200 and len({line.split()[1] for line in lines}) >= 8
-    chosen = list(range(1, len(lines) + 1))
-    if not is_long:
-        chosen = sorted({1, len(lines)} | set(random.Random(1).sample(chosen, PLACES)))
-    killed = 0
-    for nth in chosen:
-        for side in ("before", "behind"):
-            other = copied(clinic, clinic.folder / f"{nth}{side}")
-            ran = other.run(*words, kill=[nth, side])
-            killed += ran.status == -signal.SIGKILL
-            again(other, words)
-            assert outcome(other) == expected, f"killed {side} {lines[nth - 1]}"
-            shutil.rmtree(other.folder)
-    assert killed == 2 * len(chosen)
+            f"{second}/night.edf", f"{second}/taken/000003.edf"} <= through.left.keys()
+    count = len(through.calls)
+    assert count >= 200 and len({line.split()[1] for line in through.calls}) >= 8
+    chosen = range(1, count + 1)
+    few = {1, count} | set(random.Random(1).sample(chosen, PLACES))
+    for nth, side in product(chosen if is_long else sorted(few), SIDES):
+        through.assert_same_where_killed(nth, side)
 
 
 def test_killed_where_the_morning_ends(clinic: Clinic) -> None:
     """Behind each of the last calls, with which what was put away is removed."""
-    words, calls = evening(clinic)[:2], clinic.folder / "calls"
-    through = copied(clinic, clinic.folder / "through")
-    calls.touch()
-    calls.chmod(0o666)
-    assert through.run(*words, calls=str(calls)).status == 1
-    expected, lines = outcome(through), calls.read_text().splitlines()
-    last = max(nth for nth, line in enumerate(lines, 1) if line.split()[1] == "rename")
+    through = Through(clinic, evening(clinic)[:2])
+    last = max(nth for nth, line in enumerate(through.calls, 1) if line.split()[1] == "rename")
     for nth in range(last - 3, last + 4):
-        other = copied(clinic, clinic.folder / f"end{nth}")
-        other.run(*words, kill=[nth, "behind"])
-        again(other, words)
-        assert outcome(other) == expected, f"killed behind {lines[nth - 1]}"
+        through.assert_same_where_killed(nth, "behind")
+
+
+@pytest.mark.parametrize("words, status, step", [
+    (("recode", "r01/2026-11-26-S-0119", "--patient", "S-0300"), 0, 3),
+    (("forget", "S-0119", "--yes"), 1, 1), (("forget", "S-0200", "--yes"), 1, 1)])
+def test_recode_and_forget_killed_anywhere_and_called_again_leave_the_same(
+        clinic: Clinic, words: tuple[str, ...], status: int, step: int) -> None:
+    two_patients(clinic)
+    clinic.done("recode", "r01/2026-11-26-S-0118", "--patient", "S-0200")
+    through = Through(clinic, words, status)
+    for nth in range(1, len(through.calls) + 1, step):
+        through.assert_same_where_killed(nth, SIDES[nth % 2])
 
 
 def test_killed_at_any_moment_while_receive_runs(clinic: Clinic, is_long: bool) -> None:
     """The same by a signal from outside, at moments by chance, with all that it began."""
     words = evening(clinic)
-    through = copied(clinic, clinic.folder / "through")
+    through = clinic.copied("through")
     begun = time.monotonic()
-    assert through.run(*words).status == 1
+    through.done(*words, status=1, alone=True)
     lasts, expected = time.monotonic() - begun, tree(through.nights)
     chance = random.Random(2)
     for nth in range(100 if is_long else 12):
-        other = copied(clinic, clinic.folder / f"moment{nth}")
-        receiving = other.receive()
+        other = clinic.copied(f"moment{nth}")
+        other.receive()
         child = other.started(*words)
         time.sleep(chance.random() * lasts)
-        other.stop(child, signal.SIGKILL)
+        other.stop(child, number=signal.SIGKILL)
         again(other, words)
         assert tree(other.nights) == expected
         other.put("next.edf", FIRST.later(seed="next").piece())
         other.until_taken()
-        other.stop(receiving)
+        other.stop()
         shutil.rmtree(other.folder)
 
 
