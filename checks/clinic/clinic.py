@@ -1,16 +1,14 @@
 """A clinic in a folder: its three trees, a service's user, uploaders, and edfclinic as they call
 it. Waits are scaled: what takes minutes in a clinic takes tenths of a second here."""
-import fcntl
 import json
 import os
 import shutil
 import signal
 import subprocess
 import sys
-import threading
 import time
 from collections.abc import Callable, Iterator
-from contextlib import contextmanager, nullcontext, suppress
+from contextlib import contextmanager, suppress
 from pathlib import Path
 from typing import Any
 
@@ -37,7 +35,6 @@ class Clinic:
         self.path = f"{programs}:/usr/sbin:/usr/bin:/sbin:/bin"
         self.running: list[Process] = []
         self.receiving: list[Process] = []
-        self.uploaders: list[int] = []
         for path, owner, group, mode in ((self.inboxes, 0, 0, 0o755),
                                          (self.data, SERVICE, SERVICE, 0o700),
                                          (self.nights, SERVICE, SERVICE, 0o2750)):
@@ -90,40 +87,10 @@ class Clinic:
         self.running.remove(child)
         return Ran(child.returncode, out, err, time.monotonic() - begun)
 
-    @contextmanager
-    def attended(self, recorder: str) -> Iterator[None]:
-        """As where a receive runs that takes nothing: it has the lock of its session, and gives it
-        up as long as another has `wanted`."""
-        if not (self.data / recorder).exists():
-            self.make(self.data / recorder, SERVICE, SERVICE, 0o750)
-        session, wanted = (os.open(self.data / recorder / name, os.O_RDWR | os.O_CREAT, 0o600)
-                           for name in ("session.lock", "wanted.lock"))
-        ended = threading.Event()
-
-        def attend() -> None:
-            while not ended.wait(0.01):
-                try:
-                    fcntl.flock(wanted, fcntl.LOCK_SH | fcntl.LOCK_NB)
-                    fcntl.flock(session, fcntl.LOCK_EX | fcntl.LOCK_NB)
-                except BlockingIOError:
-                    fcntl.flock(session, fcntl.LOCK_UN)
-                fcntl.flock(wanted, fcntl.LOCK_UN)
-        for fd in (session, wanted):
-            os.chown(fd, SERVICE, SERVICE)
-        thread = threading.Thread(target=attend)
-        thread.start()
-        yield
-        ended.set()
-        thread.join()
-        os.close(session)
-        os.close(wanted)
-
     def done(self, *words: Any, status: int = 0, alone: bool = False, **options: Any) -> str:
-        """The same; it must end with this status. While a morning runs a receive does, unless this
-        is alone."""
-        is_attended = words[0] == "morning" and len(words) > 1 and not alone and not self.receiving
-        with self.attended(words[1]) if is_attended else nullcontext():
-            ran = self.run(*words, **options)
+        """The same; it must end with this status. It is as where a receive runs, unless one does, or
+        this is alone."""
+        ran = self.run(*words, attended=not alone and not self.receiving, **options)
         assert ran.status == status, f"{words}: {ran}"
         return ran.out.decode()
 
@@ -193,23 +160,14 @@ class Clinic:
     def end(self) -> None:
         for child in [*self.running]:
             self.stop(child, number=signal.SIGKILL)
-        for uploader in self.uploaders:     # those that a failed test left
-            with suppress(ChildProcessError):
-                if os.waitpid(uploader, os.WNOHANG) == (0, 0):      # still ours
-                    os.kill(uploader, signal.SIGKILL)
-                    os.waitpid(uploader, 0)
 
     def put(self, name: str | bytes, data: bytes, recorder: str = "r01") -> Path:
         """Uploads a file, as a client does that gives it its name at the end."""
-        name = os.fsencode(name)
-        path, part = os.fsencode(self.inboxes / recorder) + b"/" + name, b".up" + name[:200]
-        part = os.path.dirname(path) + b"/" + part
-        with open(part, "wb") as made:
-            made.write(data)
-        os.chmod(part, 0o640)
+        path, part = (self.inboxes / recorder / os.fsdecode(it) for it in (name, ".uploaded"))
+        part.write_bytes(data)
+        part.chmod(0o640)
         os.chown(part, self.uploader(recorder), self.uploader(recorder))
-        os.rename(part, path)
-        return Path(os.fsdecode(path))
+        return part.rename(path)
 
     def inbox(self, recorder: str = "r01") -> list[str]:
         return sorted(it for it in os.listdir(self.inboxes / recorder) if not it.startswith("."))

@@ -6,8 +6,9 @@ import os
 import signal
 import socket
 import time
-from collections.abc import Callable
-from contextlib import suppress
+from collections.abc import Callable, Iterator
+from contextlib import contextmanager, suppress
+from multiprocessing import Event, Process
 from pathlib import Path
 
 from checks.clinic.clinic import Clinic, facts, tree
@@ -22,13 +23,10 @@ TINY = 400              # of tiny files; with --long 100,000
 RECORDERS = "r01", "r02"
 
 
-def as_uploader(clinic: Clinic, work: Callable[[], None]) -> int:
-    """Begins a process of r01's uploader that does this in its inbox."""
-    child = os.fork()
-    if child:
-        clinic.uploaders.append(child)
-        return child
-    try:
+@contextmanager
+def uploading(clinic: Clinic, work: Callable[[], None]) -> Iterator[Process]:
+    """A process of r01's uploader that does this in its inbox, and is ended."""
+    def begun() -> None:
         user = clinic.uploader("r01")
         os.setgroups([user])
         os.setresgid(user, user, user)
@@ -36,18 +34,19 @@ def as_uploader(clinic: Clinic, work: Callable[[], None]) -> int:
         os.umask(0o027)
         os.chdir(clinic.inboxes / "r01")
         work()
-        os._exit(0)
+    child = Process(target=begun)
+    child.start()
+    try:
+        yield child
     finally:
-        os._exit(1)
+        child.kill()
+        child.join()
 
 
 def did(clinic: Clinic, work: Callable[[], None]) -> None:
-    assert os.waitpid(as_uploader(clinic, work), 0)[1] == 0
-
-
-def ended(child: int) -> None:
-    os.kill(child, signal.SIGKILL)
-    os.waitpid(child, 0)
+    with uploading(clinic, work) as child:
+        child.join()
+    assert child.exitcode == 0
 
 
 def put(name: str, data: bytes) -> None:
@@ -130,12 +129,11 @@ def test_names_that_are_exchanged_all_the_time(clinic: Clinic) -> None:
             os.symlink(target, ".link")
             while not LIBC.renameat2(AT_FDCWD, b"x.edf", AT_FDCWD, b".link", RENAME_EXCHANGE):
                 pass
-    child = as_uploader(clinic, exchange)
     receive_both(clinic)
-    for nth in range(4):
-        time.sleep(3)
-        take_beside(clinic, f"good{nth}.edf")
-    ended(child)
+    with uploading(clinic, exchange):
+        for nth in range(4):
+            time.sleep(3)
+            take_beside(clinic, f"good{nth}.edf")
     assert_untouched(clinic, target)
 
 
@@ -158,49 +156,46 @@ def test_a_name_that_is_exchanged_between_the_look_and_the_opening(clinic: Clini
 def test_the_inbox_itself_and_folders_in_place_of_it(clinic: Clinic) -> None:
     """The uploader can't rename its inbox; where root puts a link there, it is not followed."""
     def attempt() -> None:
-        try:
+        with suppress(OSError):
             os.rename("../r01", "../r09")
-        except OSError:
-            return
-        os._exit(7)
     did(clinic, attempt)
     clinic.receive()
-    clinic.until_told()
-    real, target = clinic.inboxes / "r01", secret(clinic)
-    real.rename(clinic.folder / "moved")
+    real, moved, target = clinic.inboxes / "r01", clinic.folder / "moved", secret(clinic)
+    real.rename(moved)
+    clinic.until_told(inbox="its inbox can't be read: No such file or directory")
     real.symlink_to(target.parent)
-    clinic.until_told(inbox=True)       # it can't be read
+    clinic.until_told(inbox="its inbox can't be read: Not a directory")
     real.unlink()
-    (clinic.folder / "moved").rename(real)
+    moved.rename(real)
     clinic.put("good.edf", NIGHT.piece())
     clinic.until_taken()
+    clinic.until_told(accepted=1, inbox="")
     assert_untouched(clinic, target)
 
 
 def test_a_handle_that_is_kept_changes_nothing_after_the_answer(clinic: Clinic) -> None:
     """Nor does the name that /proc/self/fd gives back."""
-    ready, go = os.pipe(), os.pipe()
+    taken = Event()
 
     def keep() -> None:
         put(".new", NIGHT.piece())
         fd = os.open(".new", os.O_RDWR)
         os.rename(".new", "kept.edf")
-        os.write(ready[1], b"x")
-        os.read(go[0], 1)
+        taken.wait()
         os.pwrite(fd, b"\xff" * 1_000, 3_000)
         os.ftruncate(fd, 5_000)
         with suppress(OSError):
             os.link(f"/proc/self/fd/{fd}", "back.edf", follow_symlinks=True)
-    clinic.receive()
-    child = as_uploader(clinic, keep)
-    os.read(ready[0], 1)
-    clinic.until_taken()
-    os.write(go[1], b"x")
-    assert os.waitpid(child, 0)[1] == 0
+    with uploading(clinic, keep) as child:
+        clinic.until(clinic.inbox, "it is there")
+        clinic.receive()
+        clinic.until_taken()
+        taken.set()
+        child.join()
     clinic.until_told(written=True)
     clinic.until_answered(2)        # what it became
-    taken = list((clinic.data / "r01/tonight/taken").iterdir())
-    assert [it.read_bytes() for it in taken] == [NIGHT.piece()]
+    kept = (clinic.data / "r01/tonight/taken").iterdir()
+    assert child.exitcode == 0 and [it.read_bytes() for it in kept] == [NIGHT.piece()]
     clinic.morning(status=1)
     assert_all_is_there(clinic.archive(), ("S-0118", NIGHT.truth()))
 
@@ -215,35 +210,36 @@ def test_leases_and_locks_keep_nobody_waiting(clinic: Clinic) -> None:
         fcntl.flock(os.open("c-lock.edf", os.O_RDWR | os.O_CREAT, 0o640), fcntl.LOCK_EX)
         signal.pause()
     receive_both(clinic)
-    child = as_uploader(clinic, hold)
-    clinic.until(lambda: "c-lock.edf" in clinic.inbox(), "it holds them")
-    begun = time.monotonic()
-    take_beside(clinic, "z.edf")
-    assert time.monotonic() - begun < 15
-    clinic.until(lambda: clinic.inbox() == ["a-write.edf"], "all but the lease of a writer")
-    ended(child)
+    with uploading(clinic, hold):
+        clinic.until(lambda: "c-lock.edf" in clinic.inbox(), "it holds them")
+        begun = time.monotonic()
+        take_beside(clinic, "z.edf")
+        assert time.monotonic() - begun < 15
+        clinic.until(lambda: clinic.inbox() == ["a-write.edf"], "all but the lease of a writer")
     clinic.until_taken()
 
 
 def test_a_file_that_grows_and_one_that_changes_under_the_copy(clinic: Clinic) -> None:
+    """They are not taken, and once they are whole, they are."""
     clinic.write_config({}, still="2 s")        # for so long its writer may be kept waiting
 
     def grow() -> None:
-        fd = os.open("grows.edf", os.O_RDWR | os.O_CREAT, 0o640)
-        os.write(fd, NIGHT.piece())
-        other = os.open("flips.edf", os.O_RDWR | os.O_CREAT, 0o640)
-        os.write(other, NIGHT.piece())
-        while True:
-            os.write(fd, bytes(100))
-            os.pwrite(other, os.urandom(2), 4_000)
-            time.sleep(0.001)
-    child = as_uploader(clinic, grow)
+        put("grows.edf", NIGHT.piece())
+        put("flips.edf", NIGHT.piece())
+        with open("grows.edf", "ab", 0) as grown, open("flips.edf", "r+b", 0) as flipped:
+            while True:
+                grown.write(bytes(100))
+                os.pwrite(flipped.fileno(), os.urandom(2), 4_000)
+                time.sleep(0.001)
     receive_both(clinic)
-    for nth in range(5):
-        take_beside(clinic, f"good{nth}.edf")
-    assert {"grows.edf", "flips.edf"} <= set(clinic.inbox())
-    ended(child)
-    assert all(line[2].startswith("good") for line in clinic.log())
+    with uploading(clinic, grow):
+        for nth in range(5):
+            take_beside(clinic, f"good{nth}.edf")
+        assert clinic.inbox() == ["flips.edf", "grows.edf"]
+    assert {line[2] for line in clinic.log()} == {f"good{nth}.edf" for nth in range(5)}
+    os.truncate(clinic.inboxes / "r01/grows.edf", len(NIGHT.piece()))
+    clinic.until_answered(7)
+    assert {line[2]: line[3] for line in clinic.log()}["grows.edf"] == "accepted new=0 known=40"
 
 
 def test_many_tiny_files_delay_no_other_recorder(clinic: Clinic, is_long: bool) -> None:
@@ -294,21 +290,25 @@ NAMES = {b"esc\x1b]52;c;QUFB\x07.edf": r"esc\x1b]52;c;QUFB\x07.edf",
          b'say "x" accepted new=9 known=0': 'say "x" accepted new=9 known=0',
          "zero\u200b\u2060\ufeff\xad".encode(): r"zero\xe2\x80\x8b\xe2\x81\xa0\xef\xbb\xbf\xc2\xad",
          b"a" * 255: "a" * 255, b"<script>&.edf": "<script>&.edf", "ü.edf".encode(): "ü.edf"}
+PLANTED = {"SHA256SUMS": b"0" * 64 + b"  night.edf\n", "night.json": b'{"patient": "SECRET"}',
+           "night.svg": b"<svg><script>alert(1)</script></svg>", "plan.json": b'{"nights": []}',
+           "now.json": b'{"state": "alive"}', "2026-11-26-S-0118": b"x", 'bad\x1b".edf': b"no EDF"}
 
 
 def test_names_are_never_part_of_a_path_or_a_line(clinic: Clinic) -> None:
     clinic.receive()
     for nth, name in enumerate(NAMES):
         clinic.put(name, NIGHT.piece(nth, nth + 1))
-    clinic.put(b'bad\x1b".edf', b"no EDF")
+    for planted, data in PLANTED.items():
+        clinic.put(planted, data)
     clinic.until_taken()
-    clinic.until_told(refused_count=1)
+    clinic.until_told(refused_count=len(PLANTED))
     assert '  refused: file "bad\\x1b\\x22.edf": refused E1 Cut\n' in clinic.done("status", status=1)
     clinic.stop()
     log = clinic.log()
     assert {line[2]: line[3] for line in log if line[3].startswith("accepted")} \
         == {spelled: "accepted new=1 known=0" for spelled in NAMES.values()}
-    assert all(len(line) == 6 for line in log) and len(log) == len(NAMES) + 1
+    assert all(len(line) == 6 for line in log) and len(log) == len(NAMES) + len(PLANTED)
     assert all(it.stem.isdigit() for it in clinic.data.rglob("*.edf"))
     for words in (["status"], ["status", "--json"], ["status", "--html"], ["nights", "--json"]):
         ran = clinic.run(*words)
@@ -316,25 +316,14 @@ def test_names_are_never_part_of_a_path_or_a_line(clinic: Clinic) -> None:
     page = (clinic.nights / "status.html").read_text()
     assert "script" not in page and "S-0118" not in page and "edf" not in page
     clinic.morning(status=1)
-    text = (clinic.archive()[0] / "report.txt").read_bytes()
+    night, = clinic.archive()
+    text = (night / "report.txt").read_bytes()
     assert b"\x1b" not in text and rb"bad\x1b" in text
-
-
-def test_planted_sums_json_and_pictures_are_files_as_any_other(clinic: Clinic) -> None:
-    def plant() -> None:
-        put("SHA256SUMS", b"0" * 64 + b"  night.edf\n")
-        put("night.json", b'{"patient": "SECRET"}')
-        put("night.svg", b"<svg><script>alert(1)</script></svg>")
-        put("now.json", b'{"state": "alive"}')
-        put("plan.json", b'{"nights": []}')
-        put("2026-11-26-S-0118", b"x")
-    did(clinic, plant)
-    night, = clinic.put_away({"a.edf": NIGHT.piece()}, status=1)
-    assert facts(night)["patient"] == "S-0118"
-    assert "alert" not in (night / "night.svg").read_text()
-    names = [*os.listdir(night / "refused"), *os.listdir(night / "taken")]
-    assert sorted(names) == [f"{nth:06}.edf" for nth in range(1, 8)]
-    assert clinic.done("verify").endswith("1 nights, 0 files changed\n")
+    assert facts(night)["patient"] == "S-0118" and "alert" not in (night / "night.svg").read_text()
+    assert sorted(it.read_bytes() for it in (night / "refused").iterdir()) \
+        == sorted(PLANTED.values())
+    assert clinic.done("verify") == "1 nights, 0 files changed\n"
+    assert_all_is_there([night], ("S-0118", NIGHT.truth(range(len(NAMES)))))
 
 
 def test_a_night_whose_view_or_picture_would_be_huge(clinic: Clinic) -> None:
