@@ -19,6 +19,7 @@ from checks.lib.arguments import TOP
 from checks.lib.measure import Ran, done
 
 SERVICE, UPLOADER = 61_001, 61_100      # users without a name; r01's is the next one, and so on
+LONGEST = 120           # seconds of a command
 DRIVER = Path(__file__).with_name("driver.py")
 QUICK = {"still": "0.2 s", "unclosed": "1 s", "refuse": "0.6 s", "free_space": "1 kB",
          "watch": "00:00-24:00"}
@@ -76,20 +77,19 @@ class Clinic:
         self.running.append(child)
         return child
 
-    def run(self, *words: Any, seconds: float = 120, **options: Any) -> Ran:
+    def run(self, *words: Any, **options: Any) -> Ran:
         begun, child = time.monotonic(), self.started(*words, **options)
         try:
-            out, err = child.communicate(timeout=seconds)
+            out, err = child.communicate(timeout=LONGEST)
         except subprocess.TimeoutExpired:
-            os.killpg(child.pid, signal.SIGKILL)
-            out, err = child.communicate()
-            raise AssertionError(f"{words} took over {seconds} s: {err[-300:]!r}") from None
+            self.stop(child, number=signal.SIGKILL)
+            raise AssertionError(f"{words} took over {LONGEST} s") from None
         self.running.remove(child)
         return Ran(child.returncode, out, err, time.monotonic() - begun)
 
     def done(self, *words: Any, status: int = 0, alone: bool = False, **options: Any) -> str:
-        """The same; it must end with this status. It is as where a receive runs, unless one does, or
-        this is alone."""
+        """The same; it must end with this status. It is as where a receive runs, unless this is
+        alone."""
         ran = self.run(*words, attended=not alone and not self.receiving, **options)
         assert ran.status == status, f"{words}: {ran}"
         return ran.out.decode()
@@ -200,7 +200,7 @@ class Clinic:
 
     def until_taken(self, recorder: str = "r01", seconds: float = 60) -> float:
         """Till nothing is left in the inbox."""
-        return self.until(lambda: not self.inbox(recorder), f"an empty inbox of {recorder}", seconds)
+        return self.until(lambda: not self.inbox(recorder), f"{recorder} is empty", seconds)
 
     def until_told(self, **wanted: object) -> Any:
         """Till receive tells these values, True for any but an empty one; then what it tells."""
@@ -215,13 +215,13 @@ class Clinic:
         """Till the log has so many lines."""
         self.until(lambda: len(self.log()) == count, f"{count} answers")
 
-    def night_took(self, *files: dict[str, bytes], recorder: str = "r01") -> None:
+    def night_took(self, *files: dict[str, bytes]) -> None:
         """A session that takes these files, and ends; those that stand apart one after another."""
-        child = self.receive(recorder)
+        child = self.receive()
         for those in files:
             for name, data in those.items():
-                self.put(name, data, recorder)
-            self.until_taken(recorder)
+                self.put(name, data)
+            self.until_taken()
         self.stop(child)
 
     def put_away(self, files: dict[str, bytes], *cards: bytes, status: int = 0) -> list[Path]:
@@ -230,16 +230,14 @@ class Clinic:
         self.morning(*cards, status=status)
         return self.archive()
 
-    def log(self, recorder: str = "r01", folder: str = "tonight") -> list[list[str]]:
-        """The lines of the log, as lists of their fields."""
-        path = self.data / recorder / folder / "answers.log"
+    def log(self) -> list[list[str]]:
+        """The lines of r01's log, as lists of their fields."""
+        path = self.data / "r01/tonight/answers.log"
         return [line.split("\t") for line in path.read_text().splitlines()] if path.exists() else []
 
-    def archive(self, recorder: str = "r01") -> list[Path]:
-        """The folders of its nights, by their names."""
-        folder = self.nights / recorder
-        return sorted(it for it in folder.iterdir() if it.name[0].isdigit()) \
-            if folder.exists() else []
+    def archive(self) -> list[Path]:
+        """The folders of r01's nights, by their names."""
+        return sorted(self.nights.glob("r01/[0-9]*"))
 
     def card(self, data: bytes, name: str = "card.edf") -> Path:
         """A card that the service's user may read."""

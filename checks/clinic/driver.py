@@ -74,32 +74,33 @@ def shift(path: str) -> None:
     setattr(sys.modules["edfclinic.text"], "datetime", Shifted)
 
 
+def around(calls: tuple[str, ...], name: str, before: Callable[[int], None],
+           behind: Callable[[int], None] = lambda _: None) -> None:
+    """Does that with the folder where one of these calls of a name of it is made."""
+    for call in calls:
+        def called(path: Any, *words: Any, own: Any = getattr(os, call), **options: Any) -> Any:
+            folder = options.get("src_dir_fd", options.get("dir_fd"))
+            if path != name or folder is None:
+                return own(path, *words, **options)
+            before(folder)
+            try:
+                return own(path, *words, **options)
+            finally:
+                behind(folder)
+        setattr(os, call, called)
+
+
 def exchange(name: str, other: str) -> None:
-    own, libc = os.open, ctypes.CDLL(None)
-
     def swap(folder: int) -> None:
-        libc.renameat2(folder, name.encode(), folder, other.encode(), RENAME_EXCHANGE)
-
-    def opened(path: Any, *words: Any, **options: Any) -> int:
-        if path != name:
-            return own(path, *words, **options)
-        swap(options["dir_fd"])
-        try:
-            return own(path, *words, **options)
-        finally:
-            swap(options["dir_fd"])
-    setattr(os, "open", opened)
+        ctypes.CDLL(None).renameat2(folder, name.encode(), folder, other.encode(), RENAME_EXCHANGE)
+    around(("open",), name, swap, swap)
 
 
 def rename_over(name: str, other: str) -> None:
-    rename = os.rename
-    for call in ("rename", "unlink"):
-        def called(path: Any, *words: Any, own: Any = getattr(os, call), **options: Any) -> Any:
-            folder = options.get("src_dir_fd", options.get("dir_fd"))
-            if path == name and folder is not None and other in os.listdir(folder):
-                rename(other, name, src_dir_fd=folder, dst_dir_fd=folder)
-            return own(path, *words, **options)
-        setattr(os, call, called)
+    def over(folder: int, rename: Any = os.rename) -> None:
+        if other in os.listdir(folder):
+            rename(other, name, src_dir_fd=folder, dst_dir_fd=folder)
+    around(("rename", "unlink"), name, over)
 
 
 def main() -> None:

@@ -104,18 +104,6 @@ def test_a_disk_that_is_not_mounted(clinic: Clinic, tree_of: str, uid: int, stat
     assert_night_is_there(clinic)
 
 
-def test_an_inbox_that_is_gone_is_told_and_taken_again(clinic: Clinic) -> None:
-    clinic.receive()
-    clinic.until_told()
-    moved = clinic.inboxes.with_name("elsewhere")
-    clinic.inboxes.rename(moved)
-    clinic.until_told(inbox="its inbox can't be read: No such file or directory")
-    moved.rename(clinic.inboxes)
-    clinic.put("a.edf", NIGHT.piece())
-    clinic.until_taken()
-    clinic.until_told(inbox="")
-
-
 def test_a_file_that_the_inbox_keeps_is_taken_once(clinic: Clinic) -> None:
     """As on a disk that became read-only: it is taken, and removed when that is possible again."""
     clinic.put("a.edf", NIGHT.piece(0, 240))

@@ -10,6 +10,7 @@ from collections.abc import Callable, Iterator
 from contextlib import contextmanager, suppress
 from multiprocessing import Event, Process
 from pathlib import Path
+from typing import Any
 
 from checks.clinic.clinic import Clinic, facts, tree
 from checks.clinic.nights import assert_all_is_there
@@ -74,7 +75,7 @@ def assert_untouched(clinic: Clinic, path: Path) -> None:
         assert b"SECRET" not in data, name
 
 
-def receive_both(clinic: Clinic, **how: object) -> None:
+def receive_both(clinic: Clinic, **how: Any) -> None:
     clinic.receive(**how)
     clinic.receive("r02")
 
@@ -303,7 +304,8 @@ def test_names_are_never_part_of_a_path_or_a_line(clinic: Clinic) -> None:
         clinic.put(planted, data)
     clinic.until_taken()
     clinic.until_told(refused_count=len(PLANTED))
-    assert '  refused: file "bad\\x1b\\x22.edf": refused E1 Cut\n' in clinic.done("status", status=1)
+    said = clinic.done("status", status=1)
+    assert '  refused: file "bad\\x1b\\x22.edf": refused E1 Cut\n' in said
     clinic.stop()
     log = clinic.log()
     assert {line[2]: line[3] for line in log if line[3].startswith("accepted")} \

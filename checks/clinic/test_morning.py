@@ -152,30 +152,24 @@ def test_a_card_twice_and_a_late_file(clinic: Clinic) -> None:
     assert len(starts(nights[1])) == 80, "a card that a night has was joined again"
 
 
-def test_a_card_alone_and_a_card_that_is_none(clinic: Clinic) -> None:
-    assert "nothing was accepted" in clinic.morning()
-    said = clinic.morning(b"no card", status=1)
-    assert 'card "card0.edf" was refused E1 Cut' in said and clinic.archive() == []
-    assert not (clinic.data / "r01/morning").exists()
-    clinic.morning(NIGHT.piece())
-    assert [it.name for it in clinic.archive()] == [NAME]
-    assert_all_is_there(clinic.archive(), ("S-0118", NIGHT.truth()))
-
-
 def test_refused_files_stay_for_the_night_that_they_are_of(clinic: Clinic) -> None:
     """All pieces are E8; in the morning a card that is none changes nothing; then the right one."""
+    assert "nothing was accepted" in clinic.morning()
     wrong = NIGHT.piece(0, 80)
     wrong = wrong[:168] + b"25.11.26" + wrong[176:]
     clinic.night_took({"a.edf": wrong})
-    assert "look: 1 files were refused, and are in no night: file \"a.edf\"" in clinic.morning(
-        status=1)
-    clinic.morning(b"no card", status=1)
+    said = clinic.morning(status=1)
+    assert "look: 1 files were refused, and are in no night: file \"a.edf\"" in said
+    said = clinic.morning(b"no card", status=1)
+    assert 'card "card0.edf" was refused E1 Cut' in said and clinic.archive() == []
+    assert not (clinic.data / "r01/morning").exists()
     assert [line[2] for line in clinic.log()] == ["a.edf"]
     clinic.morning(NIGHT.piece(), status=1)
     night, = clinic.archive()
     assert [(it["name"], it["minutes"], it["missing"]) for it in facts(night)["refused"]] == [
         ("a.edf", None, None)]
     assert (night / "refused/000001.edf").read_bytes() == wrong
+    assert_all_is_there([night], ("S-0118", NIGHT.truth()))
 
 
 def test_a_name_that_came_again_is_resent(clinic: Clinic) -> None:
@@ -241,7 +235,7 @@ def test_it_waits_for_another_that_has_the_nights(clinic: Clinic) -> None:
         fcntl.flock(held, fcntl.LOCK_EX)
         child = clinic.started("morning", "r01")
         fds = Path(f"/proc/{child.pid}/fd")
-        clinic.until(lambda: held.name in map(os.path.realpath, fds.iterdir()), "it tries the lock")
+        clinic.until(lambda: "nights.lock" in [it.resolve().name for it in fds.iterdir()], "a try")
         time.sleep(1)
         assert child.poll() is None
     assert child.wait(60) == 1 and len(clinic.archive()) == 1

@@ -2,23 +2,11 @@
 import hashlib
 import os
 import signal
-import time
 
 from checks.clinic.clinic import Clinic
 from checks.clinic.recordings import Recording
 
 NIGHT = Recording(records=40)
-
-
-def test_accepted_files_are_kept_as_they_came_and_leave_the_inbox(clinic: Clinic) -> None:
-    files = {"b.edf": NIGHT.piece(20, 40), "a.edf": NIGHT.piece(0, 20)}
-    clinic.night_took(files)
-    log = clinic.log()
-    assert sorted((line[2], line[3]) for line in log) == [
-        ("a.edf", "accepted new=20 known=0"), ("b.edf", "accepted new=20 known=0")]
-    taken = clinic.data / "r01/tonight/taken"
-    assert {line[2]: (taken / line[1]).read_bytes() for line in log} == files
-    assert [oct(it.stat().st_mode & 0o777) for it in taken.iterdir()] == ["0o640"] * 2
 
 
 def test_what_clients_still_write_is_not_touched(clinic: Clinic) -> None:
@@ -30,19 +18,6 @@ def test_what_clients_still_write_is_not_touched(clinic: Clinic) -> None:
         clinic.put(f"{nth}.edf", NIGHT.piece(nth, nth + 1))
         clinic.until_told(accepted=nth, waiting_count=0, left_count=0)
     assert sorted(os.listdir(clinic.inboxes / "r01")) == sorted(names)
-
-
-def test_a_file_that_grows_is_taken_once_it_is_whole(clinic: Clinic) -> None:
-    clinic.write_config({}, still="2 s")
-    data = NIGHT.piece()
-    clinic.receive()
-    path = clinic.put("slow.edf", data[:2_000])
-    for at in range(2_000, len(data), 400):
-        time.sleep(0.1)
-        with open(os.open(path, os.O_WRONLY | os.O_APPEND), "wb") as file:
-            file.write(data[at:at + 400])
-    clinic.until_taken()
-    assert [line[3] for line in clinic.log()] == ["accepted new=40 known=0"]
 
 
 def test_without_a_count_or_with_a_hole_it_waits_for_unclosed(clinic: Clinic) -> None:
@@ -121,15 +96,19 @@ def test_a_larger_file_is_left_and_a_full_night_takes_no_more(clinic: Clinic) ->
 
 def test_mended_and_sorted_files_are_taken_and_kept_as_they_came(clinic: Clinic) -> None:
     clinic.write_config({"r01": {"mend": True, "by_onset": True}})
-    good = NIGHT.piece(0, 20)
+    good, cut = NIGHT.piece(0, 20), NIGHT.piece(20, 30)[:-5]
     wrong = good[:168] + b"26/11/26" + good[176:]       # another separator, E6
-    clinic.night_took({"mended.edf": wrong, "cut.edf": NIGHT.piece(20, 40)[:-5]})
+    files = {"b.edf": NIGHT.piece(30), "mended.edf": wrong, "cut.edf": cut}
+    clinic.night_took(files)
     log = {line[2]: line for line in clinic.log()}
-    assert log["mended.edf"][3] == "accepted new=20 known=0"
-    assert log["cut.edf"][3] == "refused E21 CutRecord record=20"
+    assert {name: line[3] for name, line in log.items()} == {
+        "b.edf": "accepted new=10 known=0", "mended.edf": "accepted new=20 known=0",
+        "cut.edf": "refused E21 CutRecord record=10"}
     tonight = clinic.data / "r01/tonight"
-    assert (tonight / "taken" / log["mended.edf"][1]).read_bytes() == wrong
+    assert {name: next(tonight.glob(f"*/{line[1]}")).read_bytes() for name, line in log.items()
+            } == files
     assert os.listdir(tonight / "work") == []
+    assert {oct(it.stat().st_mode & 0o777) for it in (tonight / "taken").iterdir()} == {"0o640"}
 
 
 def test_a_killed_receive_loses_nothing_and_takes_nothing_away(clinic: Clinic) -> None:

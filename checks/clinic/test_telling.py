@@ -29,6 +29,9 @@ def test_states_and_causes(clinic: Clinic) -> None:
     clinic.write_config({}, silent="1 s")
     assert clinic.state() == "stopped"
     clinic.receive()
+    clinic.until_told(accepted=0)
+    assert clinic.state() == "idle"
+    clinic.morning(NIGHT.later(seed="card").piece())        # after which it looks anew
     clinic.until(lambda: clinic.state() == "idle", "idle")
     clinic.put("a.edf", NIGHT.piece(0, 40))
     clinic.until_told(accepted=1)
@@ -177,10 +180,3 @@ def test_an_output_that_fails_want_of_memory_and_a_listing_that_fails_are_troubl
     clinic.done("verify", status=3)
     (night / "taken").chmod(0o2750)
     clinic.done("verify")
-
-
-def test_after_a_morning_with_a_card_alone_it_is_not_unknown(clinic: Clinic) -> None:
-    clinic.receive()
-    clinic.until_told(accepted=0)
-    clinic.morning(NIGHT.piece())
-    clinic.until(lambda: clinic.state() == "idle", "idle", 30)
