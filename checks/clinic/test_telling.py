@@ -153,7 +153,7 @@ def test_more_entries_than_are_looked_at_are_told(clinic: Clinic) -> None:
     for nth in range(4):
         clinic.put(f"{nth}.part", b"x")
     clinic.receive(set={"inbox.MOST": 3})
-    clinic.until_told(is_crowded=True)
+    clinic.until_told(left=[{"name": "(others)", "answer": "more than 3 are not looked at"}])
     assert clinic.causes().keys() == {"left"}
 
 
