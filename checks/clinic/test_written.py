@@ -41,16 +41,15 @@ def test_what_is_written_after_it_was_taken_is_taken_again(clinic: Clinic, more:
 def test_what_is_still_written_when_the_morning_comes_is_a_look(clinic: Clinic) -> None:
     clinic.write_config({}, still="2 s")        # for so long its writer may be kept waiting
     clinic.receive()
-    path = clinic.put("CURRENT.EDF", NIGHT.piece())
-    with open(path, "ab") as writer:
+    with open(clinic.put("CURRENT.EDF", NIGHT.piece()), "ab") as writer:
         clinic.until_taken()
-        with subprocess.Popen(["yes"], stdout=subprocess.PIPE) as source, \
-                subprocess.Popen(["sh", "-c", "while sleep 0.1; do head -c 9; done"],
-                                 stdin=source.stdout, stdout=writer) as going_on:
-            clinic.until_told(written=True)
-            clinic.morning(status=1)
-            going_on.kill()
-            source.kill()
+        with subprocess.Popen(["sh", "-c", "while printf more; do sleep 0.1; done"],
+                              stdout=writer) as going_on:
+            try:
+                clinic.until_told(written=True)
+                clinic.morning(status=1)
+            finally:
+                going_on.kill()
     assert "refused: it was taken before, and was still written to when receiving ended" in (
         clinic.archive()[0] / "answers.log").read_text()
     clinic.until_told(refused_count=True)       # it is taken in the next night
