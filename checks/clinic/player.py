@@ -20,6 +20,7 @@ from datetime import datetime, timedelta, timezone
 from typing import Any
 
 START = datetime(2026, 11, 2, tzinfo=timezone.utc)
+FAILED = 70         # the status of what edfclinic itself does not catch
 nap = time.sleep
 
 
@@ -73,17 +74,15 @@ def play(given: dict[str, Any], config: str) -> int:
 
 
 def child(given: dict[str, Any], config: str) -> None:
-    status: object = 1
+    status: object = FAILED
     try:
         status = play(given, config)
     except SystemExit as ended:
         status = ended.code or 0
-    except BaseException:
-        sys.excepthook(*sys.exc_info())
     finally:
         for stream in (sys.stdout, sys.stderr):
             stream.flush()
-        os._exit(status if isinstance(status, int) else 1)
+        os._exit(status if isinstance(status, int) else FAILED)
 
 
 def main() -> None:
