@@ -109,16 +109,6 @@ def mistyped(week: Week, bed: Bed) -> None:
     bed.steps.insert(len(bed.steps) // 2, lambda: setattr(bed, "night", other))
 
 
-def set_back(week: Week, bed: Bed) -> None:
-    """The recorder's clock is set back: what comes overlaps what came."""
-    seconds = week.chance.choice((20, 120, 600))
-    night = bed.night.later(start=bed.night.start - timedelta(seconds=seconds),
-                            seed=f"{bed.night.seed} back")
-    part = bed.parts[-1]
-    name = week.chance.choice(("back.edf", week.name_of(bed, bed.parts[0])))
-    bed.steps.append(lambda: week.put(bed, name, night.piece(part[0], part[-1] + 1), night, part))
-
-
 def left_alone(week: Week, bed: Bed) -> None:
     """A file that its uploader lets nobody read."""
     part = bed.parts[0]
@@ -163,7 +153,7 @@ Fault = Callable[["Week", Bed], None]
 FAULTS: dict[str, Fault] = {
     "pauses": pauses, "one name": one_name, "wrong piece": wrong_piece, "stopped": stopped,
     "other person": other_person, "other night": other_night, "mistyped": mistyped,
-    "set back": set_back, "left": left_alone, "nothing": nothing}
+    "left": left_alone, "nothing": nothing}
 CARDS: dict[str, Fault] = {
     "late card": late_card, "wrong card": wrong_card, "other card": other_card,
     "forgotten": forgotten}

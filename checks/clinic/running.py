@@ -1,15 +1,19 @@
-"""A clinic that is played: its recorders, and edfclinic by a clock that stands still."""
-import json
+"""A clinic that is played: its recorders, and edfclinic in children of this process, by a clock
+that stands still while it runs."""
+import importlib
 import os
 import select
 import signal
 import struct
 import subprocess
 import sys
+import tempfile
 import time
+import traceback
+import types
 from collections.abc import Callable
 from dataclasses import dataclass, field
-from datetime import datetime, timedelta
+from datetime import datetime, timedelta, timezone
 from pathlib import Path
 from typing import Any
 
@@ -17,14 +21,41 @@ from checks.clinic.clinic import SERVICE, Clinic
 from checks.clinic.recordings import Recording
 from checks.clinic.truth import quoted_away
 
-PLAYER = Path(__file__).with_name("player.py")
-START = datetime(2026, 11, 2)       # as the player has it
+START = datetime(2026, 11, 2)
 LONGEST = 200       # real seconds of a step
+FAILED = 70         # the status of what edfclinic itself does not catch
 MARK = "MARK"       # in names of uploaders, which must stand in quotes
+nap = time.sleep
 
 
 class Broken(Exception):
     """A program failed, or did not end. That is no promise's, and finds no wrong one."""
+
+
+@dataclass
+class Clock:
+    """Stands for the clocks of `time`. Who sleeps and has pipes writes a byte to one, and reads
+    from the other what the clock is when it wakes."""
+    seconds: float
+    pipes: tuple[int, ...]
+
+    def monotonic(self) -> float:
+        return self.seconds
+
+    def now(self, tz: Any = None) -> datetime:
+        here = START.replace(tzinfo=timezone.utc) + timedelta(seconds=self.seconds)
+        return here.astimezone(tz)
+
+    def localtime(self) -> time.struct_time:
+        return self.now(timezone.utc).timetuple()
+
+    def sleep(self, seconds: float) -> None:
+        if self.pipes:
+            os.write(self.pipes[0], b".")
+            self.seconds = struct.unpack("d", os.read(self.pipes[1], 8))[0]
+        else:       # a command waits for another
+            nap(seconds)
+            self.seconds += seconds
 
 
 @dataclass
@@ -36,6 +67,10 @@ class Writer:
     numbers: list[int]
     count: str          # what the header counts meanwhile: all, what is there, or nothing (-1)
     written: int = 0
+
+    @property
+    def records(self) -> set[bytes]:
+        return {self.night.samples_of(it) for it in self.numbers}
 
 
 @dataclass
@@ -59,21 +94,16 @@ class Running:
     """Runs what a week asks for, and has what was done and said."""
 
     def __init__(self, clinic: Clinic, programs: Path):
-        self.clinic, self.clock, self.said = clinic, 0.0, list[str]()
-        self.beds, self.outs = [Bed(it) for it in clinic.recorders], clinic.folder / "outs"
+        self.clinic, self.programs, self.clock = clinic, programs, 0.0
+        self.beds, self.said = [Bed(it) for it in clinic.recorders], list[str]()
+        self.outs, self.command = clinic.folder / "outs", 0
         clinic.make(self.outs, SERVICE, SERVICE, 0o755)
-        self.player = subprocess.Popen(
-            [sys.executable, "-I", PLAYER, clinic.source, clinic.config],
-            stdin=subprocess.PIPE, stdout=subprocess.PIPE, user=SERVICE, group=SERVICE,
-            extra_groups=[clinic.uploader(it) for it in clinic.recorders], cwd="/",
-            pass_fds=[fd for bed in self.beds for fd in bed.pipes[1:3]],
-            env={"PATH": f"{programs}:/usr/bin:/bin", "LC_ALL": "C.UTF-8", "TZ": "UTC"})
 
     def close(self) -> None:
-        for bed in self.beds:
-            if bed.receiving:
-                os.kill(bed.receiving, signal.SIGKILL)
-        self.player.communicate(timeout=LONGEST)
+        for child in [self.command, *(it.receiving for it in self.beds)]:
+            if child:
+                os.kill(child, signal.SIGKILL)
+                os.waitpid(child, 0)
         for bed in self.beds:
             for fd in (*bed.pipes, *(it.fd for it in bed.writers)):
                 os.close(fd)
@@ -81,25 +111,64 @@ class Running:
     def say(self, what: str) -> None:
         self.said.append(f"{START + timedelta(seconds=self.clock):%d %H:%M:%S} {what}")
 
-    def ask(self, **given: Any) -> int:
-        """What the player answers. Who sleeps is woken while it is waited for."""
-        assert self.player.stdin and self.player.stdout
-        self.player.stdin.write(json.dumps(given).encode() + b"\n")
-        self.player.stdin.flush()
-        end = time.monotonic() + LONGEST
-        while not select.select([self.player.stdout], [], [], 0.03)[0]:
-            if time.monotonic() > end:
-                raise Broken(f"{given}: not within {LONGEST} s")
-            self.tick()
-        return int(self.player.stdout.readline())
-
     def begun(self, words: tuple[Any, ...], out: str, pipes: tuple[int, ...] = ()) -> int:
-        return self.ask(words=list(map(str, words)), out=str(self.outs / out), clock=self.clock,
-                        pipes=pipes)
+        child = os.fork()
+        if not child:
+            status: object = FAILED
+            try:
+                status = self.edfclinic([*map(str, words)], str(self.outs / out), pipes)
+            except SystemExit as ended:
+                status = ended.code or 0
+            except BaseException:
+                traceback.print_exc()
+            finally:
+                sys.stdout.flush()
+                os._exit(status if isinstance(status, int) else FAILED)
+        return child
+
+    def edfclinic(self, words: list[str], out: str, pipes: tuple[int, ...]) -> int:
+        """In a child: becomes the service, and then edfclinic."""
+        for number, name in ((0, ""), (1, ".out"), (2, ".err")):
+            flags = os.O_WRONLY | os.O_CREAT | os.O_TRUNC if name else os.O_RDONLY
+            os.dup2(os.open(f"{out}{name}" if name else "/dev/null", flags, 0o644), number)
+        for fd in [it for it in map(int, os.listdir("/proc/self/fd")) if it > 2]:
+            if fd not in pipes and os.path.exists(f"/proc/self/fd/{fd}"):
+                os.close(fd)
+        sys.stdout, sys.stderr = (open(fd, "w", encoding="utf-8") for fd in (1, 2))
+        os.setgroups([self.clinic.uploader(it) for it in self.clinic.recorders])
+        os.setgid(SERVICE)
+        os.setuid(SERVICE)
+        os.chdir("/")
+        os.environ.clear()
+        os.environ.update(PATH=f"{self.programs}:/usr/bin:/bin", LC_ALL="C.UTF-8", TZ="UTC")
+        tempfile.tempdir, clock = None, Clock(self.clock, pipes)
+        for name in ("monotonic", "localtime", "sleep"):
+            setattr(time, name, getattr(clock, name))
+        # Who waits for a program really sleeps.
+        setattr(subprocess, "time", types.SimpleNamespace(sleep=nap))
+        sys.pycache_prefix, sys.dont_write_bytecode = f"{self.outs}/cache", False
+        sys.path.insert(0, str(self.clinic.source))
+        main = importlib.import_module("edfclinic.__main__").main
+        setattr(sys.modules["edfclinic.text"], "datetime", type(
+            "Shown", (datetime,), {"now": lambda tz=None: clock.now(tz)}))
+        sys.argv = ["edfclinic", "--config", str(self.clinic.config), *words]
+        return int(main())
+
+    def ended(self, child: int, wants_receive: bool = False) -> int:
+        """Its status. Where it waits for receive, that is woken meanwhile."""
+        end = time.monotonic() + LONGEST
+        while (it := os.waitpid(child, os.WNOHANG)) == (0, 0):
+            if time.monotonic() > end:
+                raise Broken(f"a command did not end within {LONGEST} s")
+            if wants_receive:
+                self.tick()
+            nap(0.02)
+        return os.waitstatus_to_exitcode(it[1])
 
     def run(self, *words: Any) -> tuple[int, str]:
         """Its status, and what it said."""
-        status = self.ask(wait=self.begun(words, "command"))
+        self.command = self.begun(words, "command")
+        status, self.command = self.ended(self.command, words[0] == "morning"), 0
         said = "".join((self.outs / f"command.{it}").read_text() for it in ("out", "err"))
         self.say(f"{' '.join(map(str, words))}: {status}\n{said}")
         if status not in (0, 1):
@@ -109,12 +178,11 @@ class Running:
         return status, said
 
     def begin(self, bed: Bed) -> None:
-        if bed.receiving:
-            return
-        bed.receiving = self.begun(("receive", bed.name), bed.name, bed.pipes[1:3])
-        bed.since = self.clock
-        self.wait_for(bed)
-        self.tick()
+        if not bed.receiving:
+            bed.receiving = self.begun(("receive", bed.name), bed.name, bed.pipes[1:3])
+            bed.since = self.clock
+            self.wait_for(bed)
+            self.tick()
 
     def end(self, bed: Bed, number: int = signal.SIGTERM) -> None:
         ending, bed.receiving = bed.receiving, 0
@@ -123,7 +191,7 @@ class Running:
         os.kill(ending, number)
         if number == signal.SIGTERM:
             os.write(bed.pipes[3], struct.pack("d", self.clock))
-        status = self.ask(wait=ending)
+        status = self.ended(ending)
         said = (self.outs / f"{bed.name}.err").read_text()
         self.say(f"receive of {bed.name} ended by {number}:\n{said}")
         if status not in (0, -signal.SIGKILL):

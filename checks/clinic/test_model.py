@@ -40,7 +40,8 @@ WRONG: dict[str, tuple[list[tuple[str, str, str]], dict[str, Any]]] = {
     "forgets by folder": ([
         ("forget.py", "*nights.sums(folder)} - {*rest, LOG, SUMS, WHOSE}",
          "*nights.sums(folder)} - {LOG, SUMS, WHOSE}")],
-        {"faults": ["other person", "wrong piece"], "lacks": None, "damage": "no head"}),
+        {"faults": ["other person", "wrong piece"], "lacks": None, "hours": -3,
+         "damage": "no head"}),
     "lays each card with the first night": ([
         ("giving.py", "        own = self.owners(file)\n        nth =",
          "        own = self.parts[:1]\n        nth =")],

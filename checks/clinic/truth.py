@@ -9,11 +9,11 @@ from dataclasses import dataclass
 from pathlib import Path
 from typing import Any
 
+from checks.clinic.clinic import Clinic
 from checks.clinic.recordings import Held, Recording, codes_in, records_in
 
-NOBODY = "", "X"        # codes of files that may be anybody's
-PERHAPS = "perhaps "
 MADE = "night", "view", "pieces"        # how names of what is no file that came begin
+PERHAPS = "perhaps "                    # before the owner of a file without a code
 
 
 @dataclass(frozen=True)
@@ -34,8 +34,8 @@ def summed(data: bytes) -> bytes:
 
 
 class Truth:
-    def __init__(self, inboxes: Path, data: Path, nights: Path, recorders: tuple[str, ...]):
-        self.inboxes, self.data, self.nights = inboxes, data, nights
+    def __init__(self, clinic: Clinic):
+        self.clinic = clinic
         self.recorded: dict[bytes, tuple[str, int]] = {}    # whose and of when, by the samples
         self.pieces: dict[bytes, Piece] = {}                # by their sums, as these
         self.read: dict[bytes, list[Held]] = {}
@@ -43,14 +43,14 @@ class Truth:
         self.made_of: dict[Path, list[Path]] = {}
         self.meant: dict[Path, str] = {}
         # What came to a recorder, and is in no night, and was not told.
-        self.came: dict[str, set[bytes]] = {it: set() for it in recorders}
+        self.came: dict[str, set[bytes]] = {it: set() for it in clinic.recorders}
 
     def piece(self, data: bytes, night: Recording, numbers: list[int],
               changed: dict[int, bytes] | None = None) -> Piece:
         """Of a file that was made of these data records, whole or cut."""
         width, head = night.header(0, "1").record_bytes(), 256 * (len(night.samples) + 2)
-        whole = numbers[:max(0, len(data) - head) // width]
-        samples = {nth: (changed or {}).get(nth, night.samples_of(nth)) for nth in whole}
+        samples = {nth: (changed or {}).get(nth, night.samples_of(nth))
+                   for nth in numbers[:max(0, len(data) - head) // width]}
         owner = night.patient.split()[0]
         self.recorded |= {it: (owner, night.instant(nth)) for nth, it in samples.items()}
         is_head = data[:8] == b"0       " and len(data) >= 88
@@ -64,6 +64,9 @@ class Truth:
         assert found, f"{path} is no file that came: {len(data)} bytes, {data[:88]!r}"
         return found
 
+    def records(self, paths: list[Path]) -> set[bytes]:
+        return {samples for it in paths for samples in self.known(it).records}
+
     def export(self, path: Path) -> list[Held]:
         data = path.read_bytes()
         if summed(data) not in self.read:
@@ -72,15 +75,18 @@ class Truth:
 
     def folders(self, is_all: bool = True) -> list[Path]:
         return sorted(it for bed in self.came for above in ("", "replaced")[:1 + is_all]
-                      for it in (self.nights / bed / above).glob("[0-9]*"))
+                      for it in (self.clinic.nights / bed / above).glob("[0-9]*"))
+
+    def facts(self, folder: Path) -> Any:
+        path = folder / "night.json"
+        return json.loads(path.read_text()) if path.exists() else {}
 
     def exports(self, folder: Path) -> list[Path]:
         return [*folder.glob("night.edf"), *folder.glob("pieces*.edf")]
 
-    def raw(self, folder: Path) -> list[tuple[Path, Piece]]:
+    def raw(self, folder: Path) -> list[Path]:
         """The files of a folder that came: uploads and cards."""
-        return [(it, self.known(it)) for it in sorted(folder.rglob("*.edf"))
-                if not it.name.startswith(MADE)]
+        return sorted(it for it in folder.rglob("*.edf") if not it.name.startswith(MADE))
 
     def held(self) -> set[bytes]:
         """What a night's night.edf has."""
@@ -88,75 +94,59 @@ class Truth:
                 for _, samples in self.export(path)}
 
     def put_away(self) -> set[bytes]:
-        return {it for folder in self.folders() for _, piece in self.raw(folder)
-                for it in piece.records}
+        return self.records([it for folder in self.folders() for it in self.raw(folder)])
 
-    def pending(self, *kinds: str, bed: str = "*") -> set[bytes]:
+    def pending(self, *kinds: str) -> set[bytes]:
         """What lies in inboxes, in tonight, in a morning that is unfinished."""
         paths = [it for kind in kinds or ("taken", "refused", "cards")
-                 for it in self.data.glob(f"{bed}/*/{kind}/*.edf")]
-        paths += self.inboxes.glob(f"{bed}/[!.]*")
-        return {samples for it in paths for samples in self.known(it).records}
-
-    def facts(self, folder: Path) -> Any:
-        path = folder / "night.json"
-        return json.loads(path.read_text()) if path.exists() else {}
+                 for it in self.clinic.data.glob(f"*/*/{kind}/*.edf")]
+        return self.records([*paths, *self.clinic.inboxes.glob("*/[!.]*")])
 
     def recoded(self, folder: Path, made: Path, code: str) -> None:
         old = folder.parent / "replaced" / folder.name
         self.made_of[made] = [old, *self.made_of.pop(folder, []), *self.made_of.get(made, [])]
         self.meant |= {it: code for it in self.made_of[made]}
 
-    def codes(self) -> Iterator[tuple[Path, str, str, str]]:
-        """Of each file that came, and each export of the archive: its code, its night's, and the
-        one that this was recoded to."""
+    def codes(self) -> Iterator[tuple[Path, str, Path]]:
+        """Of each file that came, and each export of the archive its code and its folder. What has
+        no code is perhaps its owner's, where a night of theirs and of its evening is there."""
+        def evening(folder: Path) -> tuple[str, str]:
+            return folder.relative_to(self.clinic.nights).parts[0], folder.name[:10]
+        nights = {(*evening(it), self.facts(it)["patient"]) for it in self.folders(False)}
         for folder in self.folders():
-            told = self.facts(folder).get("patient", "")
-            assert told or folder.parent.name == "replaced", f"{folder} has no night.json"
-            own = [(path, piece.code) for path, piece in self.raw(folder)]
-            own += [(it, codes_in(it.read_bytes())) for it in self.exports(folder)]
-            yield from ((path, code, told, self.meant.get(folder, told)) for path, code in own)
+            for path in self.raw(folder):
+                of = self.known(path)
+                is_there = (*evening(folder), of.owner) in nights
+                yield path, of.code or f"{PERHAPS}{of.owner}" * is_there, folder
+            yield from ((it, codes_in(it.read_bytes()), folder) for it in self.exports(folder))
 
     def belongings(self) -> dict[Path, tuple[str, bytes]]:
-        """Of each of these files whose it is. What has no code is perhaps its owner's, where a
-        night of theirs and of its evening is there."""
-        nights = {(it.parent, it.name[:10], self.facts(it)["patient"]) for it in self.folders(False)}
+        """Of each of these files whose it is."""
         found = {}
-        for path, own, told, meant in self.codes():
-            owner = self.known(path).owner if own == "" else ""
-            evening = next(it for it in path.parents if it.name[:1].isdigit())
-            above = evening.parent if evening.parent.name != "replaced" else evening.parents[1]
-            is_there = (above, evening.name[:10], owner) in nights
-            code = f"{PERHAPS}{owner}" if is_there else meant if own == told else own
-            found[path] = code, path.read_bytes()
+        for path, code, folder in self.codes():
+            told = self.facts(folder).get("patient")
+            owner = self.meant.get(folder, code) if code == told else code
+            found[path] = owner, path.read_bytes()
         return found
 
     def assert_owners(self) -> None:
         """Nobody's file lies in another's night."""
-        for path, own, told, _ in self.codes():
-            assert not told or own in (told, *NOBODY), \
-                f"{path} is of {own}, and lies in a night of {told}"
+        for path, code, folder in self.codes():
+            told = self.facts(folder).get("patient", "")
+            assert told or folder.parent.name == "replaced", f"{folder} has no night.json"
+            assert code in (told, "") or not told or code.startswith(PERHAPS), \
+                f"{path} is of {code}, and lies in a night of {told}"
 
     def assert_exports(self, before: list[Path]) -> None:
-        """Of the nights of a morning: each export has what was recorded, and each accepted data
-        record is in one, and once."""
-        held, all_held, accepted = Counter[bytes](), set[bytes](), set[bytes]()
+        """Of the nights of a morning: each export has what was recorded, and once."""
+        held = Counter[bytes]()
         for folder in [it for it in self.folders(False) if it not in before]:
-            told = self.facts(folder)
+            patient = self.facts(folder)["patient"]
             for path in self.exports(folder):
                 found = self.export(path)
                 assert [start for start, _ in found] == sorted({start for start, _ in found}), path
                 for start, samples in found:
-                    code, recorded = self.recorded.get(samples, ("nobody", 0))
-                    assert (code, recorded) == (told["patient"], start), \
-                        f"{path} has at {start} what {code} recorded at {recorded}"
-                all_held |= {samples for _, samples in found}
+                    assert self.recorded.get(samples) == (patient, start), \
+                        f"{path} of {patient} has at {start} {self.recorded.get(samples)}"
                 held.update([samples for _, samples in found if path.name == "night.edf"])
-            for path, piece in self.raw(folder):
-                nth = path.stem.partition("card-")[2]
-                if path.parent.name == "taken" or nth and told["card"] and \
-                        told["card"][int(nth) - 1]["answer"].startswith("accepted "):
-                    accepted |= piece.records
         assert max(held.values(), default=1) == 1, "a data record is in two nights of a morning"
-        lost = accepted - all_held
-        assert not lost, f"{len(lost)} accepted data records are in no export"

@@ -14,7 +14,7 @@ from checks.clinic.clinic import Clinic
 from checks.clinic.faults import CARDS, CODES, FAULTS, Fault
 from checks.clinic.recordings import Recording
 from checks.clinic.running import MARK, START, Bed, Running, Writer
-from checks.clinic.truth import NOBODY, PERHAPS, Truth, quoted_away
+from checks.clinic.truth import PERHAPS, Truth, quoted_away
 from checks.lib.arguments import TOP
 
 STILL, UNCLOSED, REFUSE = 10, 120, 600
@@ -38,7 +38,7 @@ class Week(Running):
         tables = {it: {"mend": mend, "by_onset": self.draw("by onset", True, False, False, False)}
                   for it in names}
         super().__init__(Clinic(folder, programs, source, names, tables, **TIMES), programs)
-        self.truth = Truth(self.clinic.inboxes, self.clinic.data, self.clinic.nights, names)
+        self.truth = Truth(self.clinic)
         count = self.chance.choice((0, 1, 1, 2, 3))
         self.faults = self.wanted.get("faults", self.chance.sample([*FAULTS, *CARDS], count))
         self.days = self.draw("days", 2, 3, 4)
@@ -50,9 +50,6 @@ class Week(Running):
         return drawn
 
     # What recorders do.
-
-    def records(self, night: Recording, numbers: list[int]) -> set[bytes]:
-        return {night.samples_of(it) for it in numbers}
 
     def name_of(self, bed: Bed, part: list[int]) -> str:
         return f"{bed.night.start:%d%H%M}-{part[0]:02}.edf"
@@ -114,15 +111,19 @@ class Week(Running):
         self.write(bed, it, len(it.numbers), True)
         if it.path.suffix == ".part":
             it.path.rename(it.path.with_suffix(""))
-            self.truth.came[bed.name] |= self.records(it.night, it.numbers)
+            self.truth.came[bed.name] |= it.records
         bed.writers.remove(it)
         os.close(it.fd)
+
+    def end_writers(self, bed: Bed) -> None:
+        for it in list(bed.writers):
+            self.end_writer(bed, it)
 
     def end(self, bed: Bed, number: int = signal.SIGTERM) -> None:
         """What was taken out of the inbox and is written to is nobody's to see from now on."""
         super().end(bed, number)
         for it in [it for it in bed.writers if os.fstat(it.fd).st_nlink == 0]:
-            self.lose(bed, self.records(it.night, it.numbers))
+            self.lose(bed, it.records)
             bed.writers.remove(it)
             os.close(it.fd)
 
@@ -179,10 +180,6 @@ class Week(Running):
             for it in list(bed.writers):
                 self.write(bed, it, chance.choice((0, 1, 3)))
 
-    def end_writers(self, bed: Bed) -> None:
-        for it in list(bed.writers):
-            self.end_writer(bed, it)
-
     def send(self, bed: Bed, part: list[int]) -> None:
         """A piece as good recorders send it: whole, or slowly, without a pause."""
         night, name, kind = bed.night, self.name_of(bed, part), self.chance.random()
@@ -216,7 +213,7 @@ class Week(Running):
 
     def morning(self, bed: Bed, cards: list[Path]) -> int:
         truth, before = self.truth, self.truth.folders()
-        came, given = truth.came[bed.name], {it for path in cards for it in truth.known(path).records}
+        came, given = truth.came[bed.name], truth.records(cards)
         came |= given
         status, said = self.run("morning", bed.name, *(word for it in cards
                                                        for word in ("--card", it)))
@@ -228,8 +225,7 @@ class Week(Running):
         assert self.faults or not status, "all is right, and it is not said"
         truth.assert_exports(before)
         truth.assert_owners()
-        waits = truth.pending() | {it for writer in bed.writers
-                                   for it in self.records(writer.night, writer.numbers)}
+        waits = truth.pending().union(*(it.records for it in bed.writers))
         nowhere = missing - given - truth.put_away() - waits    # a card's owner keeps it
         assert not nowhere, f"{len(nowhere)} data records came, and are nowhere"
         truth.came[bed.name] = missing & waits
@@ -292,7 +288,7 @@ class Week(Running):
         stays = [path for path, (owner, _) in after.items() if owner == code]
         assert not stays, f"forget {code} leaves {stays}, which is of this patient"
         others = Counter(data for owner, data in before.values()
-                         if owner not in (*NOBODY, code, f"{PERHAPS}{code}"))
+                         if owner not in ("", code, f"{PERHAPS}{code}"))
         lost = others - Counter(data for _, data in after.values())
         assert not lost, f"forget {code} removed what is of others: " + ", ".join(
             f"{path} of {owner}" for path, (owner, data) in before.items() if data in lost)
