@@ -8,11 +8,14 @@ from datetime import datetime
 from pathlib import Path
 from typing import Any
 
+import pytest
+
 from checks.clinic.clinic import Clinic, tree
 from checks.clinic.recordings import Recording
 from checks.lib.measure import done
 
 PLACES = 24             # each before and behind; with --long all
+AT_ONCE = {"morning.RUNS": 0}   # no receive is waited for: as many calls each time
 FIRST = Recording(records=40, start=datetime(2026, 11, 25, 22, 0))
 SECOND = Recording(records=60, start=datetime(2026, 11, 26, 22, 0))
 
@@ -45,6 +48,17 @@ def outcome(clinic: Clinic) -> dict[str, tuple[str, bytes]]:
     return {**tree(clinic.nights), **left}
 
 
+def ran_through(clinic: Clinic, words: tuple[Any, ...],
+                status: int = 1) -> tuple[Clinic, list[str]]:
+    """A copy of it in which these words ran through, and the calls that changed the file system."""
+    calls, through = clinic.folder / "calls", copied(clinic, clinic.folder / "through")
+    calls.touch()
+    calls.chmod(0o666)
+    ran = through.run(*words, calls=str(calls), set=AT_ONCE)
+    assert ran.status == status, ran
+    return through, calls.read_text().splitlines()
+
+
 def again(clinic: Clinic, words: tuple[Any, ...]) -> None:
     """Begins it again, as often as it says that it isn't done."""
     for _ in range(3):
@@ -56,16 +70,12 @@ def again(clinic: Clinic, words: tuple[Any, ...]) -> None:
 
 
 def test_killed_at_any_call_it_makes_the_same(clinic: Clinic, is_long: bool) -> None:
-    words, calls = evening(clinic), clinic.folder / "calls"
-    through = copied(clinic, clinic.folder / "through")
-    calls.touch()
-    calls.chmod(0o666)
-    assert through.run(*words, calls=str(calls)).status == 1
+    words = evening(clinic)
+    through, lines = ran_through(clinic, words)
     expected = outcome(through)
     first, second = "r01/2026-11-25-S-0118", "r01/2026-11-26-S-0118"
     assert {f"{first}/night.edf", f"{first}/pieces.edf", f"{first}/refused/000004.edf",
             f"{second}/night.edf", f"{second}/taken/000003.edf"} <= set(expected)
-    lines = calls.read_text().splitlines()
     assert len(lines) >= 200 and len({line.split()[1] for line in lines}) >= 8
     chosen = list(range(1, len(lines) + 1))
     if not is_long:
@@ -74,7 +84,7 @@ def test_killed_at_any_call_it_makes_the_same(clinic: Clinic, is_long: bool) -> 
     for nth in chosen:
         for side in ("before", "behind"):
             other = copied(clinic, clinic.folder / f"{nth}{side}")
-            ran = other.run(*words, kill=[nth, side])
+            ran = other.run(*words, kill=[nth, side], set=AT_ONCE)
             killed += ran.status == -signal.SIGKILL
             again(other, words)
             assert outcome(other) == expected, f"killed {side} {lines[nth - 1]}"
@@ -84,18 +94,93 @@ def test_killed_at_any_call_it_makes_the_same(clinic: Clinic, is_long: bool) -> 
 
 def test_killed_where_the_morning_ends(clinic: Clinic) -> None:
     """Behind each of the last calls, with which what was put away is removed."""
-    words, calls = evening(clinic)[:2], clinic.folder / "calls"
-    through = copied(clinic, clinic.folder / "through")
-    calls.touch()
-    calls.chmod(0o666)
-    assert through.run(*words, calls=str(calls)).status == 1
-    expected, lines = outcome(through), calls.read_text().splitlines()
+    words = evening(clinic)[:2]
+    through, lines = ran_through(clinic, words)
+    expected = outcome(through)
     last = max(nth for nth, line in enumerate(lines, 1) if line.split()[1] == "rename")
     for nth in range(last - 3, last + 4):
         other = copied(clinic, clinic.folder / f"end{nth}")
-        other.run(*words, kill=[nth, "behind"])
+        other.run(*words, kill=[nth, "behind"], set=AT_ONCE)
         again(other, words)
         assert outcome(other) == expected, f"killed behind {lines[nth - 1]}"
+
+
+STRANGE = SECOND.later(patient="S-0777 X X X").piece()[:-20]    # of nobody who has a night
+
+
+def test_what_is_of_no_night_is_put_away_before_a_night_is_told(clinic: Clinic) -> None:
+    """Killed between, no night is there while what came of another lies nowhere."""
+    clinic.night_took({"a.edf": SECOND.piece(), "b.edf": STRANGE})
+    words, rest = ("morning", "r01"), "r01/replaced/2026-11-26.rest/refused/000002.edf"
+    through, lines = ran_through(clinic, words)
+    made = [nth for nth, line in enumerate(lines, 1) if line.endswith("/.new") and "rename" in line]
+    assert len(made) == 2 and (through.nights / rest).read_bytes() == STRANGE
+    report = (through.archive()[0] / "report.txt").read_text()
+    assert "is missing" not in report and "look: " not in report
+    assert "files of patients who had no night are in replaced/2026-11-26.rest: compare" in report
+    for nth in (made[0], made[0] + 1, made[1] - 1, made[1]):
+        for side in ("before", "behind"):
+            other = copied(clinic, clinic.folder / f"{nth}{side}")
+            ran = other.run(*words, kill=[nth, side], set=AT_ONCE)
+            assert ran.status == -signal.SIGKILL
+            assert (other.nights / rest).exists() or not other.archive()
+            assert (other.nights / rest).exists() == ((nth, side) != (made[0], "before"))
+            said = other.done(*words, status=1)
+            assert 'look: file "b.edf"' in said and "is missing" not in said
+            assert outcome(other) == outcome(through)
+
+
+def test_forget_leaves_the_folder_that_an_unfinished_morning_will_make(clinic: Clinic) -> None:
+    """Both are what is of no night of this evening: of the one before, and of this one."""
+    other, third = (SECOND.later(patient=f"{it} X X X").piece() for it in ("S-0119", "S-0120"))
+    clinic.night_took({"a.edf": SECOND.piece(), "b.edf": other, "junk.edf": b"junk"})
+    clinic.done("morning", "r01", status=1)
+    clinic.night_took({"c.edf": third, "d.edf": STRANGE})
+    _, lines = ran_through(clinic, ("morning", "r01"))
+    planned = [nth for nth, line in enumerate(lines, 1) if line.endswith("rename " + str(
+        clinic.folder / "through/data/r01/morning/.plan.json.new"))]
+    clinic.run("morning", "r01", kill=[planned[0], "behind"], set=AT_ONCE)
+    assert (clinic.data / "r01/morning/plan.json").exists()
+    clinic.done("forget", "S-0118", "--yes", status=1)
+    clinic.done("morning", "r01", status=1)
+    assert {STRANGE, b"junk", other, third} <= {it.read_bytes() for it in
+                                                clinic.nights.rglob("*.edf")}
+
+
+@pytest.mark.parametrize("command", ["thin", "seen"])
+def test_thin_and_seen_killed_anywhere_and_called_again(clinic: Clinic, command: str,
+                                                        is_long: bool) -> None:
+    """A card contradicts what came, and a file may be of two nights: all is there to be thinned."""
+    old = SECOND.later(start=datetime(2025, 11, 26, 22, 0))
+    other = old.later(patient="S-0119 X X X", seed="other")
+    clinic.night_took({"a.edf": old.piece(0, 40), "b.edf": other.piece(), "S-0119.edf": b"junk"})
+    card = clinic.card(old.piece(changed={7: bytes(12)}))
+    clinic.done("morning", "r01", "--card", card, status=1)
+    first, second = (f"r01/{it.name}" for it in clinic.archive())
+    for night in (first, second):
+        clinic.done("seen", night, "--why", "as on paper, AB")
+    words = {"thin": ("thin", "--older", "30d"), "seen": ("seen", first, "--why", "again")}[command]
+    through, lines = ran_through(clinic, words, 0)
+    chosen = list(range(1, len(lines) + 1))
+    for nth in chosen if is_long else random.Random(3).sample(chosen, 12):
+        it = copied(clinic, clinic.folder / f"{nth}")
+        assert it.run(*words, kill=[nth, ("before", "behind")[nth % 2]]).status == -signal.SIGKILL
+        assert it.run(*words).status == 0
+        assert it.done("verify").endswith(" 0 files changed\n"), lines[nth - 1]
+        assert command == "seen" or tree(it.nights) == tree(through.nights), lines[nth - 1]
+        assert (it.nights / first / "seen.txt").read_text().splitlines()[-1].endswith(
+            " as on paper, AB" if command == "thin" else " again")
+        shutil.rmtree(it.folder)
+    said = through.done("morning", "r01", "--card", card)
+    assert "put away before" in said and ("here card-1.edf" in said) == (command == "seen")
+    if command == "thin":
+        assert {it.name for it in (through.nights / first).iterdir()} == {
+            "night.edf", "report.txt", "night.json", "seen.txt", "SHA256SUMS", "answers.log",
+            "whose.json"}
+        for code in ("S-0118", "S-0119"):
+            through.done("forget", code, "--yes")
+        assert not any(b"S-0119" in it for _, it in tree(through.nights).values())
+        assert through.archive() == []
 
 
 def test_killed_at_any_moment_while_receive_runs(clinic: Clinic, is_long: bool) -> None:

@@ -35,8 +35,8 @@ WRONG: dict[str, tuple[list[tuple[str, str, str]], dict[str, Any]]] = {
         ("inbox.py", "if os.fstat(fd).st_ino == entry.key[0]:", "if False:")],
         {"faults": ["pauses"], "count": "right", "ends": True, "pause": 150, "cards": 0}),
     "gives a refused file to the first night": ([
-        ("giving.py", "own = own if own or file.code not in (\"\", \"X\") else self.parts",
-         "own = own or self.parts")], {"faults": ["other person"], "lacks": -3}),
+        ("giving.py", "return self.rest if is_strange else own[0]",
+         "return (own or self.parts)[0]")], {"faults": ["other person"], "lacks": -3}),
     "forgets by folder": ([
         ("forget.py", "*nights.sums(folder)} - {*rest, LOG, SUMS, WHOSE}",
          "*nights.sums(folder)} - {LOG, SUMS, WHOSE}")],
@@ -44,7 +44,9 @@ WRONG: dict[str, tuple[list[tuple[str, str, str]], dict[str, Any]]] = {
          "damage": "no head"}),
     "lays each card with the first night": ([
         ("giving.py", "        own = self.owners(file)\n        nth =",
-         "        own = self.parts[:1]\n        nth =")],
+         "        own = self.parts[:1]\n        nth ="),
+        ("giving.py", "return self.rest if is_strange else own[0]",
+         "return own[0] if own else self.rest")],
         {"faults": ["other person", "other card"], "beds": 1, "lacks": None, "hours": 2,
          "night": -1}),
     "says that all is well whatever else must be looked at": ([

@@ -60,6 +60,46 @@ def test_what_waits_is_told_and_a_receive_that_does_not_run(clinic: Clinic) -> N
     assert "\"link.edf\"" in clinic.done("morning", "r01", status=1)
 
 
+def test_what_came_behind_the_staging_is_of_the_next_night(clinic: Clinic) -> None:
+    """A morning was killed behind its first step. Then a file was refused."""
+    clinic.night_took({"a.edf": NIGHT.piece(0, 20)})
+    (clinic.data / "r01/tonight").rename(clinic.data / "r01/morning")
+    clinic.night_took({"b.edf": NIGHT.piece(20)[:-3]})
+    said = clinic.done("morning", "r01", status=1)
+    assert "look: 1 files are of the next night: call again\n" in said and CLEAR not in said
+    assert CLEAR not in (clinic.archive()[0] / "report.txt").read_text()
+
+
+def test_what_was_accepted_and_is_not_kept_yet_waits(clinic: Clinic) -> None:
+    """receive was killed behind its line in the log."""
+    clinic.night_took({"a.edf": NIGHT.piece(0, 20), "b.edf": NIGHT.piece(20)})
+    (clinic.data / "r01/tonight/taken/000002.edf").unlink()
+    clinic.put("b.edf", NIGHT.piece(20))
+    said = clinic.done("morning", "r01", status=1)
+    assert "look: 1 files wait in its inbox" in said and CLEAR not in said
+
+
+def test_an_inbox_that_could_not_be_read_is_no_clear_one(clinic: Clinic) -> None:
+    clinic.night_took({"a.edf": NIGHT.piece(0, 20)})
+    card, inbox = clinic.card(NIGHT.piece()), clinic.inboxes / "r01"
+    inbox.chmod(0)
+    said = clinic.done("morning", "r01", "--card", card, status=1)
+    inbox.chmod(0o3770)
+    said += clinic.done("morning", "r01", "--card", card, status=1)
+    said += (clinic.archive()[0] / "report.txt").read_text()
+    assert CLEAR not in said and ERASED not in said
+    assert "look: its inbox can't be read, Permission denied: ask the engineer\n" in said
+
+
+def test_a_card_that_is_known_is_told_when_all_looks_are(clinic: Clinic) -> None:
+    card = clinic.card(NIGHT.piece())
+    clinic.done("morning", "r01", "--card", card)
+    for name, data in (("cut.edf", NIGHT.piece()[:-3]), ("b.edf", OTHER.piece())):
+        clinic.night_took({name: data})
+        said = clinic.done("morning", "r01", "--card", card, status=1)
+        assert "put away before" in said and CLEAR not in said and ERASED not in said
+
+
 def test_what_was_refused_while_nothing_was_accepted_is_a_look(clinic: Clinic) -> None:
     clinic.night_took({"cut.edf": NIGHT.piece()[:-3]})
     said = clinic.done("morning", "r01", status=1)
@@ -93,6 +133,36 @@ def test_a_refused_file_goes_to_its_owner_alone(clinic: Clinic, mend: bool) -> N
     (last / "refused/000009.edf").write_bytes(other)
     clinic.done("forget", "S-0120", "--yes")
     assert [it.read_bytes() for it in clinic.nights.rglob("*.edf")] == [other]
+
+
+def test_what_may_be_of_two_nights_is_told_by_both(clinic: Clinic) -> None:
+    clinic.night_took({"a.edf": NIGHT.piece(), "b.edf": OTHER.piece(), "junk.edf": b"junk"})
+    clinic.done("morning", "r01", status=1)
+    for night in clinic.archive():
+        assert CLEAR not in (night / "report.txt").read_text()
+    assert "a refused file that may be of this night too lies with another night of this morning" \
+        in str(facts(clinic.archive()[1])["look"])
+
+
+def test_what_has_code_x_lies_in_nobodys_night(clinic: Clinic) -> None:
+    """It may be anybody's, who stays unforgotten: so it is told, and nobody's forget takes it."""
+    cut, card = (NIGHT.later(patient="X X X X", seed=it).piece()[:-20] for it in ("cut", "card"))
+    clinic.night_took({"a.edf": NIGHT.piece(), "x.edf": cut})
+    said = clinic.done("morning", "r01", "--card", clinic.card(card), status=1)
+    rest = clinic.nights / "r01/replaced/2026-11-26.rest"
+    held = {str(it.relative_to(rest)): it.read_bytes() for it in rest.rglob("*.edf")}
+    assert held == {"refused/000002.edf": cut, "card-1.edf": card} and CLEAR not in said
+    assert str(facts(clinic.archive()[0])["look"]).count(
+        "that may be of this night too lies in replaced/2026-11-26.rest") == 2
+    assert "rest" in {it["cause"] for it in clinic.status()["causes"]}
+    said = clinic.done("forget", "S-0118", "--yes", status=1)
+    for name in held:
+        assert f"look: {rest}/{name} stays: it is of this patient, of patient X, or of both" in said
+    assert {it.read_bytes() for it in clinic.nights.rglob("*.edf")} == {cut, card}
+    assert clinic.done("verify").endswith(" 0 files changed\n")
+    clinic.night_took({"b.edf": NIGHT.later(patient="X X X X").piece(), "y.edf": cut})
+    clinic.done("morning", "r01", status=1)
+    assert (clinic.nights / "r01/2026-11-26-X/refused/000002.edf").read_bytes() == cut
 
 
 def test_a_patient_whose_code_is_rest_is_forgotten(clinic: Clinic) -> None:
@@ -189,6 +259,10 @@ def test_a_look_is_answered_and_an_old_night_is_thinned(clinic: Clinic) -> None:
         assert clinic.done("thin", "--older", "1d") == f"thinned {night}\n"
         assert {it.name for it in night.iterdir()} == {"night.edf", "report.txt", "night.json",
                                                        "seen.txt", "SHA256SUMS"}
+        said = clinic.done("morning", "r01", "--card", clinic.folder / "card.edf")
+        assert 'card "card.edf": all of it is put away; it may be erased' in said
+        report = (night / "report.txt").read_text()
+        assert "card-1.edf" not in said + report and "view.edf is for" not in report
         assert clinic.done("verify") == "1 nights, 0 files changed\n"
         assert clinic.done("backup") == ""
         assert tree(place / "r01" / NAME).keys() == kept.keys()

@@ -8,7 +8,7 @@ from typing import Any
 import pytest
 
 from checks.clinic import (test_archive, test_disks, test_hostile, test_kills, test_morning,
-                           test_taking, test_written)
+                           test_taking, test_told, test_written)
 from checks.clinic.clinic import SERVICE, Clinic
 from checks.lib import disks
 from checks.lib.arguments import TOP
@@ -100,6 +100,22 @@ WRONG: dict[str, Any] = {
         ("forget.py", "*nights.sums(folder)} - {*rest, LOG, SUMS, WHOSE}",
          "*nights.sums(folder)} - {LOG, SUMS, WHOSE}"),
         test_archive.test_forget_of_the_first_patient_leaves_what_is_the_seconds),
+    "puts away what is of no night behind the nights": (
+        ("morning.py", "            making.make(self.place, rest)\n", ""),
+        ("morning.py", "        files.rename(self.place.morning, self.gone)\n",
+         "        [making.make(self.place, rest) for rest in plan['rest']]\n"
+         "        files.rename(self.place.morning, self.gone)\n"),
+        test_kills.test_what_is_of_no_night_is_put_away_before_a_night_is_told),
+    "gives what a morning has planned to what is forgotten": (
+        ("forget.py", " | nights.planned(place))", ")"),
+        test_kills.test_forget_leaves_the_folder_that_an_unfinished_morning_will_make),
+    "lays what has code X with the first night": (
+        ("giving.py", "is_strange = file.code and", "is_strange = file.code not in ('', 'X') and"),
+        test_told.test_what_has_code_x_lies_in_nobodys_night),
+    "takes what is not kept yet for put away": (
+        ("morning.py", "if not accepted(it.answer) or files.exists(join(above, TAKEN, it.file))}",
+         "}"),
+        test_told.test_what_was_accepted_and_is_not_kept_yet_waits),
 }
 
 

@@ -33,6 +33,8 @@ def strip(folder: str, doomed: set[str], whose: Whose) -> None:
         lost += [it for nth, it in enumerate(facts["card"], 1) if f"card-{nth}.edf" in doomed]
         for it in lost:
             it["name"] = nights.FORGOTTEN
+        for name in doomed & {*facts.get(nights.THINNED, ())}:
+            facts[nights.THINNED].pop(name)
         made = {FACTS: files.as_json(facts), REPORT: making.report(folder, facts).encode()}
     made |= {LOG: "".join("\t".join(it) + "\n" for it in stay).encode()} if lines else {}
     sums = {it: of for it, of in nights.sums(folder).items() if it not in doomed | {WHOSE}}
@@ -44,11 +46,11 @@ def strip(folder: str, doomed: set[str], whose: Whose) -> None:
         files.remove(join(folder, name))
 
 
-def rest_of(folder: str) -> str:
+def rest_of(place: Place, folder: str) -> str:
     """A name without the code for what stays of a night."""
     above, night = os.path.split(folder)
     replaced = join(above.removesuffix("/replaced"), "replaced")
-    name = free_name(f"{night[:10]}{REST}", {*files.names(replaced)})
+    name = free_name(f"{night[:10]}{REST}", {*files.names(replaced)} | nights.planned(place))
     return folder if nights.is_rest(folder) else join(replaced, name)
 
 
@@ -56,7 +58,8 @@ class Forgetting:
     """Of one recorder: what the patient has in archive and backup."""
 
     def __init__(self, place: Place, roots: list[str], code: str, is_meant: bool):
-        self.code, self.is_meant, self.lines = spell(code), is_meant, set[str]()
+        self.place, self.code, self.is_meant = place, spell(code), is_meant
+        self.lines = set[str]()
         for above in [join(root, name) for root in roots for name in ("", "replaced")]:
             files.remove_tree(join(above, ".new"))      # what a kill left, also of a backup
         files.remove_tree(join(place.root, "gone"))
@@ -91,7 +94,7 @@ class Forgetting:
         doomed, to = {it for it in rest if not rest[it]}, folder
         if is_going:
             doomed |= {*files.below(folder), *nights.sums(folder)} - {*rest, LOG, SUMS, WHOSE}
-            to = rest_of(folder)
+            to = rest_of(self.place, folder)
         at, does = (to, "removed") if self.is_meant else (folder, "has")
         heads = {*files_of(folder, self.code)} - {join(folder, it) for it in there}
         if is_going:

@@ -69,16 +69,20 @@ class Giving:
         return [it for it in own if any(overlap(run, whole(it.runs)) for run in file.runs or ())] \
             or list(own)
 
+    def home(self, file: File, own: list[Part]) -> Part:
+        """The first of these. Whose code has no night, and be it X, lies in nobody's."""
+        is_strange = file.code and file.code not in [it.held.patient for it in own]
+        return self.rest if is_strange else own[0]
+
     def lay(self, file: File, own: list[Part], name: str, line: Line) -> Part:
-        """Puts it into the first of these, or to the rest. Of which else it may be is told there,
-        and by the first night, which has the log."""
-        part = (own or [self.rest])[0]
+        """Of which else it may be is told there, and by the first night, which has the log."""
+        part, of = self.home(file, own), [it.night for it in own]
         part.files |= {name: file.path} if file.path else {}
-        of = [it.night for it in own] or [f"{PATIENT}{file.code}"]
+        of = [f"{PATIENT}{file.code}"] * (part is self.rest) + of
         for it in (part, self.parts[0])[:1 + ("/" in name)]:
             if of != [it.night]:
                 it.whose[name] = of
-        if not own:
+        if part is self.rest:
             minutes = text.minutes(sum(it.end - it.first for it in file.runs or ()))
             part.facts["log"].append(list(line))
             part.facts["look"].append(
@@ -87,32 +91,41 @@ class Giving:
                 + f", and has {minutes} minutes" * bool(file.runs))
         return part
 
+    def tell_others(self, what: str, own: list[Part], part: Part, why: str) -> None:
+        """Each night that a file may be of, but does not lie with, without another's code."""
+        at = f"in {part.night}" if part is self.rest else "with another night of this morning"
+        said = f"a {what} that may be of this night too lies {at}: {why}"
+        for it in own:
+            it.facts["look"] += [said] * (it is not part and said not in it.facts["look"])
+
     def card(self, file: File, name: str = "card") -> None:
         """Or what came before a card that contradicts it."""
         own = self.owners(file)
-        nth = 1 + sum(it.startswith(name) for it in (own or [self.rest])[0].files)
+        nth = 1 + sum(it.startswith(name) for it in self.home(file, own).files)
         name = f"{name}-{nth}.edf" if nth > 1 or name == "card" else f"{name}.edf"
         part = self.lay(file, own, name, Line("", name, file.name, file.answer))
         if file.answer:
             part.facts["card"].append({"name": file.name, "answer": file.answer})
-            for it in own[1:]:
-                it.facts["look"].append("a card that may be of this night too lies with an earlier "
-                                        f"one of this morning: it was {file.answer}")
+            self.tell_others("card", own, part, f"it was {file.answer}")
 
     def give(self, file: File, folder: str, told: str, line: Line) -> None:
         own, runs = self.owners(file), file.runs or []
         before = [it for it in own if runs and it.runs[0].first <= runs[0].first]
         own.sort(key=lambda it: not before or it is not before[-1])
         part = self.lay(file, own, join(folder, line.file), line)
-        if told and own:
-            held = sorted(run for it in self.parts if it.held.patient == file.code
-                          for run in it.runs)
-            lasts, lacks = sum(run.end - run.first for run in runs), missing(runs, held)
-            resent = not lacks and self.has_all(file) if file.is_known else line.file in self.came
+        if not told:
+            return
+        held = sorted(run for it in self.parts if it.held.patient == file.code for run in it.runs)
+        lasts, lacks = sum(run.end - run.first for run in runs), missing(runs, held)
+        resent = not lacks and self.has_all(file) if file.is_known else line.file in self.came
+        if part is not self.rest:
             part.facts[told].append({
                 "name": file.name, "answer": file.answer, "resent": told == REFUSED and resent,
                 "minutes": text.minutes(lasts) if file.is_known else None,
                 "missing": text.minutes(lacks) if file.is_known else None})
+        if told == REFUSED and not resent:
+            self.tell_others("refused file", own, part, "call morning with the card of this night, "
+                             "or ask the engineer")
 
     def strange(self, before: list[Span], cards: list[File]) -> None:
         """Cards that have nothing of the nights of which something came."""

@@ -9,8 +9,8 @@ from typing import Any
 from . import files, programs, text
 from .config import Recorder
 from .files import join
-from .nights import (FACTS, FORGOTTEN, NIGHT, NONE, PIECES, REPORT, WHOSE, folders, is_cut, line,
-                     read_facts, span, sums, write_sums)
+from .nights import (FACTS, FORGOTTEN, NIGHT, NONE, PIECES, REPORT, THINNED, WHOSE, folders, is_cut,
+                     line, read_facts, span, sums, write_sums)
 from .place import LOG, REFUSED, TAKEN, Place
 from .text import Trouble, named
 
@@ -127,17 +127,19 @@ def told(facts: dict[str, Any], seen: Sequence[str] = (), is_clear: bool = True)
     receive runs."""
     kept = "it may be erased if the paper agrees" if is_clear and (seen or not facts["look"]) else \
         "keep it till each look is answered"
-    cards = [f"{named('card', it['name'])}, here card-{nth}.edf" + (
+    cards = [named("card", it["name"]) + f", here card-{nth}.edf" * (THINNED not in facts) + (
              f": all of it is put away; {kept}" if programs.accepted(it["answer"]) else
              f", was {it['answer']}: none of it is put away")
              for nth, it in enumerate(facts["card"], 1) if it["name"] != FORGOTTEN]
     looks = [f"look: {it}" for it in facts["look"]] + [f"answered: {it}" for it in seen]
-    clear = "nothing that came before morning was called is missing: " \
-        "compare begin, end and gaps with the paper"
+    clear = f"files of patients who had no night are in {facts['rest']}" if "rest" in facts else \
+        "nothing that came before morning was called is missing"
+    clear += ": compare begin, end and gaps with the paper"
     same = [f"{it['night']} is there too, of this code and evening, and "
             f"{USE[it['has_all'], it['all_here']]}; keep both"
             for it in facts.get("same_night", ())]
-    none = "what came, and its card, are in replaced" if "recoded" in facts else "no card is in it"
+    none = "what came of it is with the night that it replaces, and so is its card" \
+        if "recoded" in facts else "no card is in it"
     return [line(facts), *same, *(cards or [none]), *(looks or [clear] * is_clear)]
 
 
@@ -145,10 +147,11 @@ def report(folder: str, facts: dict[str, Any]) -> str:
     is_there = files.exists(join(folder, NIGHT))
     lines = [*told(facts), f"patient {facts['patient']}, investigation {facts['investigation']}"]
     lines += [f"view.edf is for EDFbrowser, night.svg a picture, {NIGHT} all data for programs"
-              ] * is_there
-    lines += [f"{named('file', it['name'])}: {refused(it)}" for it in facts["refused"]]
-    lines += [f"{named('file', it['name'])} differs from the card: {refused(it)}"
-              for it in facts["differs"]]
+              ] * (is_there and THINNED not in facts)
+    lines += ["it was thinned: what came, its cards, view.edf and night.svg were removed"
+              ] * (THINNED in facts)
+    lines += [f"{named('file', it['name'])}{differs}: {refused(it)}" for kind, differs in (
+        ("refused", ""), ("differs", " differs from the card")) for it in facts[kind]]
     pieces = [["compare", NIGHT, it] for it in files.names(folder) if it.startswith(PIECES)]
     for words in [["list", NIGHT], *pieces] if is_there else []:
         ran = programs.run(["edfruns", *words], folder, join(folder, NIGHT))
@@ -161,5 +164,5 @@ def report(folder: str, facts: dict[str, Any]) -> str:
 
 
 def write_facts(folder: str, facts: dict[str, Any]) -> None:
-    files.replace(join(folder, FACTS), files.as_json(facts))
     files.replace(join(folder, REPORT), report(folder, facts).encode())
+    files.replace(join(folder, FACTS), files.as_json(facts))

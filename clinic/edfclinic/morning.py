@@ -8,13 +8,14 @@ from typing import Any
 from . import files, making, nights, text
 from .config import Config
 from .files import join
-from .inbox import ASIDE, Inbox
-from .place import LOG, REFUSED, TAKEN, Card, Place, check, read_log
+from .inbox import Inbox
+from .nights import PLAN
+from .place import LOG, REFUSED, TAKEN, Card, Line, Place, check, read_log
 from .plan import CARDS, Planning
 from .programs import accepted
 from .text import DONE, LOOK, Trouble, named
 
-PLAN, WAIT, RUNS = "plan.json", 120.0, 3.0      # seconds for which receive is busy, or begins
+WAIT, RUNS = 120.0, 3.0         # seconds for which receive is busy, or begins
 NAMED = 3                                       # names that are told
 Sums = list[tuple[Card, str]]
 
@@ -27,19 +28,20 @@ def is_receiving(place: Place) -> bool:
 
 
 def in_inbox(place: Place) -> list[str]:
-    """The names of what lies there and in no night. What was answered is told by its night."""
-    log = [it for above in (place.morning, place.tonight) for it in read_log(join(above, LOG))]
-    known, found = {(it.name, it.size): it.sum for it in log}, list[str]()
+    """The names of what lies there and in no night. What was answered is told by its night; but a
+    kill leaves what was accepted, and is not kept yet."""
+    known = {(it.size, it.sum) for above in (place.morning, place.tonight)
+             for it in read_log(join(above, LOG))
+             if not accepted(it.answer) or files.exists(join(above, TAKEN, it.file))}
+    sizes, found = {size for size, _ in known}, list[str]()
     with Inbox(place.config, place.name).folder() as fd:
-        for name in sorted({*os.listdir(fd)} - {ASIDE}):
-            summed = ""
+        for name in sorted(os.listdir(fd)):
             with suppress(FileNotFoundError):
-                status = os.stat(name, dir_fd=fd, follow_symlinks=False)
-                answered = known.get((text.spell(name), str(status.st_size)))
+                size = str(os.stat(name, dir_fd=fd, follow_symlinks=False).st_size)
+                summed = ""
                 with suppress(OSError), files.opened(name, files.READ, fd) as file:
-                    summed = files.sum_of(file) if answered else ""
-                if not summed or summed != answered:
-                    found.append(text.spell(name))
+                    summed = files.sum_of(file) if size in sizes else ""
+                found += [text.spell(name)] * ((size, summed) not in known)
     return found
 
 
@@ -54,7 +56,8 @@ class Morning:
         check(config.data, config.nights)
         self.lock = self.place.lock_nights()
         self.gone, self.known = join(self.place.root, "gone"), list[tuple[str, str]]()
-        self.looks, self.waiting = list[str](), 0
+        self.looks = list[str]()        # why somebody must look, of no night
+        self.waiting = list[str]()      # what each night tells of the inbox
 
     def run(self) -> int:
         files.make_folder(self.place.archive)
@@ -63,6 +66,7 @@ class Morning:
             self.looks.append("receive does not run: systemctl start "
                               f"edfclinic-receive@{self.place.name}")
         status = self.put_away_or_tell()
+        status = max(status, self.tell_known())     # when all looks are known
         print("".join(f"look: {it}\n" for it in self.looks), end="")
         return LOOK if self.looks else status
 
@@ -70,42 +74,47 @@ class Morning:
         if plan := files.from_json(join(self.place.morning, PLAN)):
             self.look_at_inbox()
             status = self.put_away(plan)
-            for card, _ in self.unknown_cards():
-                self.looks.append(f"{named('card', card.name)}: an earlier morning was finished; "
-                                  "call again with the card")
-            return max(status, self.tell_known())
+            self.looks += [f"{named('card', card.name)}: an earlier morning was finished; "
+                           "call again with the card" for card, _ in self.unknown_cards()]
+            return status
         cards = self.unknown_cards()
         is_staged = self.stage(cards)
         self.look_at_inbox()
-        status = self.tell_known()
         if not is_staged:
-            return max(status, self.tell_refused())
+            return self.tell_refused()
         self.copy_cards(cards)
         planning = Planning(self.recorder, self.place)
         with files.whole_or_none(planning.work):
-            plan = planning.plan([it for _, folder in self.known for it in nights.span_of(folder)],
-                                 self.waiting)
+            known = [nights.read_facts(folder) for _, folder in self.known]
+            plan = planning.plan([(it["night"][:10], nights.span(it)) for it in known
+                                  if "first" in it], self.waiting)
         if plan["nights"]:
             files.replace(join(self.place.morning, PLAN), files.as_json(plan))
-            return max(status, self.put_away(plan))
+            return self.put_away(plan)
         self.looks += [f"{it}; ask the engineer" for it in plan["cards"]]
         return self.give_back()
 
     def look_at_inbox(self) -> None:
-        """Behind the staging: what came before it is in the morning, or here, or was taken since.
-        Then tonight, which is looked at last, has it."""
-        waits, since = list[str](), list[str]()
+        """Behind the staging: what came before it is in the morning, or here, or was answered
+        since. Then tonight, which is looked at last, has it."""
+        waits, since = list[str](), list[Line]()
         try:
             waits = in_inbox(self.place)
         except OSError as why:
             self.looks.append(f"its inbox can't be read, {why.strerror}: ask the engineer")
+            self.waiting.append("its inbox could not be read when morning was called: ask the "
+                                "engineer whether files wait there")
         if files.exists(self.place.morning):
-            since = files.names(join(self.place.tonight, TAKEN))
+            staged, now = (read_log(join(it, LOG)) for it in (self.place.morning,
+                                                              self.place.tonight))
+            since = [it for it in now if it not in staged]
         self.looks += [f"{len(waits)} files wait in its inbox and are in no night of this morning: "
                        f"{shown(waits)}: call again in 10 minutes; if they stay, ask the engineer"
                        ] * bool(waits)
         self.looks += [f"{len(since)} files are of the next night: call again"] * bool(since)
-        self.waiting = len(waits) + len(since)
+        if count := len(waits) + len(since):
+            self.waiting.append(f"{count} files were in its inbox when morning was called, and are "
+                                "not in it: call morning again")
 
     def tell_refused(self) -> int:
         print(f"{self.place.name}: nothing was accepted since the last morning; nothing is done")
@@ -118,7 +127,7 @@ class Morning:
     def unknown_cards(self) -> Sums:
         """Those that no night has; `known` gets the others."""
         known = {summed: night for night in nights.folders(self.place)
-                 for name, summed in nights.sums(night).items() if name.startswith("card-")}
+                 for summed in nights.card_sums(night).values()}
         found: Sums = []
         for card in self.cards:
             try:

@@ -15,6 +15,7 @@ from .text import DONE, LOOK, Wrong
 NIGHT, PIECES, REPORT = "night.edf", "pieces", "report.txt"
 FACTS, SUMS, SEEN, NONE = "night.json", "SHA256SUMS", "seen.txt", "there is no"
 REPLACES, WHOSE = "replaces", "whose.json"      # the night that was recoded; what is of others
+PLAN, THINNED = "plan.json", "thinned"      # of a morning; the sums of cards that thin removed
 REST = ".rest"      # behind a date, as no code gives it: what is of no night of its morning
 FORGOTTEN, PATIENT = "forgotten", "patient "    # for a file's name; before an owner's code
 
@@ -64,15 +65,21 @@ def span(facts: dict[str, Any]) -> Run:
     return Run(text.instant(facts["first"]), text.instant(facts["last"]))
 
 
-def span_of(folder: str) -> list[tuple[str, Run]]:
-    """Of which evening it is, from when to when; nothing where nobody knows."""
-    facts = read_facts(folder)
-    return [(facts["night"][:10], span(facts))] if "first" in facts else []
-
-
 def sums(folder: str) -> dict[str, str]:
     written = files.read(join(folder, SUMS)) or ""
     return {it[66:]: it[:64] for it in written.split("\n") if it[64:66] == "  "}
+
+
+def card_sums(folder: str) -> dict[str, str]:
+    """Of the cards that it has, or had before it was thinned."""
+    known = {**(read_facts(folder).get(THINNED) or {}), **sums(folder)}
+    return {it: of for it, of in known.items() if it.startswith("card-")}
+
+
+def planned(place: Place) -> set[str]:
+    """The folder of what is of none, where an unfinished morning will make one."""
+    plan = files.from_json(join(place.morning, PLAN)) or {"rest": []}
+    return {os.path.basename(it["facts"]["night"]) for it in plan["rest"]}
 
 
 def write_sums(folder: str, known: dict[str, str], *anew: str) -> None:

@@ -39,8 +39,8 @@ class Planning:
         self.work = join(self.folder, self.name)
         files.make_folder(self.work)
 
-    def plan(self, before: list[Span], waiting: int) -> dict[str, Any]:
-        """`before` are cards that were put away before; `waiting` counts files of the inbox."""
+    def plan(self, before: list[Span], waiting: list[str]) -> dict[str, Any]:
+        """`before` are cards that were put away before; `waiting` tells of the inbox."""
         log = read_log(join(self.folder, LOG))
         taken = self.known(TAKEN, {line.file: line for line in log})
         cards, pieces, why = self.known(CARDS, {}), list[File](), ""
@@ -152,7 +152,7 @@ class Planning:
         if back != [files.sum_of_file(path) for path in exports]:
             raise Trouble("the nights, taken back, are not what was exported")
 
-    def name_nights(self, parts: list[Part], why: str, waiting: int) -> None:
+    def name_nights(self, parts: list[Part], why: str, waiting: list[str]) -> None:
         used = nights.used_names(self.place)
         for part in parts:
             runs, lists = part.runs, ("card", "refused", "differs", "look")
@@ -168,9 +168,7 @@ class Planning:
             if why:
                 part.facts["look"].append(f"{nights.NONE} {nights.NIGHT}: {why}; what came is in "
                                           f"{TAKEN}: ask the engineer")
-            if waiting:
-                part.facts["look"].append(f"{waiting} files were in its inbox when morning was "
-                                          "called, and are not in it: call morning again")
+            part.facts["look"] += waiting
         self.tell_why_many(parts)
 
     def tell_why_many(self, parts: list[Part]) -> None:
@@ -221,9 +219,14 @@ class Planning:
         parts[0].files |= {LOG: join(self.folder, LOG)} if log else {}
         for part in parts:
             part.facts["look"] += looks(part.facts)
-        if len(refused) > MOST_NAMED:
-            parts[0].facts["look"].append(f"{len(refused)} files were refused: see {LOG}")
-        return [giving.rest] if giving.rest.facts["log"] else []
+            part.facts["look"] += [f"{len(refused)} files were refused, of which {MOST_NAMED} were "
+                                   f"looked at: see the {LOG} of the first night of this morning"
+                                   ] * (len(refused) > MOST_NAMED)
+        if not giving.rest.facts["log"]:
+            return []
+        for part in parts:
+            part.facts["rest"] = giving.rest.night
+        return [giving.rest]
 
     def has_all(self, file: File) -> bool:
         return any(it.patient == file.code and not programs.run(

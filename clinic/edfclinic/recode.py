@@ -19,6 +19,7 @@ def recode(config: Config, night: str, code: str) -> int:
     if files.exists(place.morning):
         raise Trouble(f"a morning is unfinished: call edfclinic morning {place.name} first")
     before: dict[str, Any] = {"look": [], **nights.read_facts(old)}
+    before.pop(nights.THINNED, None)        # the new one has its view and picture
     if before.get("patient") == spell(code):
         raise Wrong(f"{night} has this code already")
     if not files.exists(join(old, NIGHT)):
@@ -32,7 +33,8 @@ def recode(config: Config, night: str, code: str) -> int:
                 if ran.status:
                     raise Wrong(f"{name}: {ran.why}")
         wanted = files.sum_of_file(join(new, NIGHT))
-        there = [it for it in nights.folders(place, False) if nights.sums(it).get(NIGHT) == wanted]
+        there = [it for it in nights.folders(place, False) if nights.sums(it).get(NIGHT) == wanted
+                 and files.read(join(it, nights.REPLACES)) == f"{name}\n"]
         told = {**before, "patient": spell(code), "card": [], "refused": [], "differs": [],
                 "look": [it for it in before["look"] if not it.startswith(nights.NONE)],
                 "night": free_name(name_of(name[:10], spell(code)), used_names(place)),

@@ -3,14 +3,16 @@ import os
 import re
 from datetime import datetime, timedelta
 
-from . import files, nights
+from . import files, making, nights
 from .config import Config
 from .files import join
-from .nights import FACTS, NIGHT, REPLACES, REPORT, SEEN, SUMS, read_facts, sums, write_sums
-from .place import places
+from .nights import (FACTS, NIGHT, REPLACES, REPORT, SEEN, SUMS, THINNED, WHOSE, card_sums,
+                     read_facts, sums, write_sums)
+from .place import LOG, places
 from .text import DONE, LOOK, Wrong
 
-KEPT = (NIGHT, REPORT, FACTS, SEEN, REPLACES)
+KEPT = {NIGHT, REPORT, FACTS, SEEN, REPLACES, SUMS}
+SHARED = {WHOSE, LOG}       # for forget, where something may be another's
 
 
 def thin(config: Config, older: str) -> int:
@@ -22,7 +24,8 @@ def thin(config: Config, older: str) -> int:
     for place in places(config):
         with open(place.lock_nights()):
             for folder in nights.folders(place):
-                more = {*files.names(folder)} - {*KEPT, SUMS}
+                there = {*files.names(folder)}
+                more = there - KEPT - (SHARED if WHOSE in there else set())
                 if more and read_facts(folder).get("last", before) < before:
                     if why := why_not(folder):
                         status = LOOK
@@ -41,8 +44,12 @@ def why_not(folder: str) -> str:
 
 
 def thin_one(folder: str, more: set[str]) -> None:
-    """The sums are written first: after a kill the next call removes the rest."""
-    write_sums(folder, {it: of for it, of in sums(folder).items() if it in KEPT})
+    """What it tells and its sums are written first: after a kill the next call removes the rest."""
+    facts, known = read_facts(folder), sums(folder)
+    if THINNED not in facts:
+        making.write_facts(folder, {**facts, THINNED: card_sums(folder)})
+    write_sums(folder, {it: known[it] for it in known if it.split("/")[0] not in more},
+               FACTS, REPORT)
     for name in sorted(more):
         path = join(folder, name)
         files.remove_tree(path) if os.path.isdir(path) else files.remove(path)
