@@ -261,6 +261,10 @@ def test_backup_copies_what_it_lacks_and_finds_what_differs(archive: Clinic) -> 
         pytest.skip("no tmpfs can be mounted here")
     with disks.Disk(place, 8_192):
         os.chown(place, SERVICE, SERVICE)
+        os.utime(archive.data / "r01/nights.lock", (1, 1))      # nights for long, and no backup
+        (archive.data / "backup.json").unlink()
+        assert [it["text"] for it in archive.status()["causes"] if it["cause"] == "backup"] == [
+            "it did not run for a week: mend that, then call edfclinic backup"]
         assert archive.done("backup").count("copied") == 2
         assert archive.done("backup") == ""
         assert "backup" not in {it["cause"] for it in archive.status()["causes"]}
@@ -268,6 +272,8 @@ def test_backup_copies_what_it_lacks_and_finds_what_differs(archive: Clinic) -> 
         assert archive.done("backup").count("copied") == 2
         assert sorted(os.listdir(place / "r01")) == [NAME, "2026-11-26-S-0200", "2026-11-27-S-0119",
                                                      "replaced"]
+        assert archive.run("backup", set={"backup.ANEW": None}).status == 3
+        assert "backup" in {it["cause"] for it in archive.status()["causes"]}
         (place / "r01/2026-11-27-S-0119/night.edf").write_bytes(b"rot")
         assert "night.edf: differs" in archive.done("backup", status=1)
         assert {it["cause"] for it in archive.status()["causes"]} >= {"backup"}
@@ -309,8 +315,8 @@ def test_states_and_causes(clinic: Clinic) -> None:
     assert found["state"] in ("alive", "silent")
     assert {**found, "last": None, "state": ""} == {
         "state": "", "accepted": 1, "last": None, "refused": [], "waiting": [], "left": [],
-        "refused_count": 0, "waiting_count": 0, "left_count": 0, "refused_minutes": 0,
-        "gap_minutes": 0.0}
+        "written": [], "refused_count": 0, "waiting_count": 0, "left_count": 0,
+        "written_count": 0, "refused_minutes": 0, "gap_minutes": 0.0}
     assert (found["last"]["name"], found["last"]["answer"]) == (
         "a.edf", "accepted new=40 known=0")
     datetime.strptime(found["last"]["at"], "%Y-%m-%dT%H:%M:%SZ")

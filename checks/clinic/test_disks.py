@@ -49,6 +49,22 @@ def test_receive_on_a_full_disk_goes_on_when_there_is_room(clinic: Clinic, disk:
     assert_all_is_there(clinic.archive(), ("S-0118", NIGHT.truth()))
 
 
+@pytest.mark.parametrize("disk", ["data"], indirect=True)
+def test_receive_begins_on_a_full_disk_and_goes_on_by_itself(clinic: Clinic, disk: Disk) -> None:
+    """As behind a morning: what it told last is not there."""
+    clinic.night_took({"a.edf": NIGHT.piece(0, 240)})
+    (clinic.data / "r01/now.json").unlink()
+    disk.fill()
+    child = clinic.receive()
+    clinic.put("b.edf", NIGHT.piece(240))
+    time.sleep(2)
+    assert clinic.inbox() == ["b.edf"] and child.poll() is None
+    disk.empty()
+    clinic.until_taken()
+    clinic.stop(child)
+    assert [line[2] for line in clinic.log()] == ["a.edf", "b.edf"]
+
+
 @pytest.mark.parametrize("disk", ["nights", "data"], indirect=True)
 def test_a_morning_on_a_full_disk_is_finished_later(clinic: Clinic, disk: Disk) -> None:
     clinic.night_took({"a.edf": NIGHT.piece(0, 240)})
@@ -102,6 +118,9 @@ def test_a_disk_that_is_not_mounted(clinic: Clinic, tree: str) -> None:
     ran = clinic.run("morning", "r01", uid=SERVICE)
     assert ran.status in (2, 3) and ran.err.startswith(b"edfclinic: "), ran
     assert b"mounted" in ran.err or tree == "data"
+    if tree == "nights":        # and not that all is well
+        text = {it["cause"]: it["text"] for it in clinic.status()["causes"]}["trouble"]
+        assert text.endswith("belongs to another user: is its disk mounted?")
     ran = clinic.run("morning", "r01", uid=0)
     assert ran.status == 3 and b"is its disk mounted?" in ran.err or tree == "nights", ran
     os.chown(place, SERVICE, SERVICE)
@@ -114,11 +133,11 @@ def test_an_inbox_that_is_gone_is_told_and_taken_again(clinic: Clinic) -> None:
     clinic.until(lambda: clinic.told(), "a first look")
     moved = clinic.inboxes.with_name("elsewhere")
     clinic.inboxes.rename(moved)
-    clinic.until(lambda: "can't be read" in clinic.told()["inbox"], "it is told")
+    clinic.until(lambda: "can't be read" in clinic.told()["trouble"], "it is told")
     moved.rename(clinic.inboxes)
     clinic.put("a.edf", NIGHT.piece())
     clinic.until_taken()
-    assert clinic.told()["inbox"] == ""
+    assert clinic.told()["trouble"] == ""
     clinic.stop(child)
 
 

@@ -186,7 +186,7 @@ def test_the_inbox_itself_and_folders_in_place_of_it(clinic: Clinic) -> None:
     secret(clinic, clinic.uploader("r01"))
     real.rename(clinic.folder / "moved")
     real.symlink_to(outside)
-    clinic.until(lambda: clinic.told()["inbox"], "it can't be read")
+    clinic.until(lambda: clinic.told()["trouble"], "it can't be read")
     real.unlink()
     (clinic.folder / "moved").rename(real)
     clinic.put("good.edf", NIGHT.piece())

@@ -106,6 +106,30 @@ def test_what_is_refused_and_waits_when_the_morning_comes_leaves_the_inbox(clini
     clinic.stop(child)
 
 
+def test_a_file_that_may_not_be_read_is_told_as_long_as_it_lies_there(clinic: Clinic) -> None:
+    clinic.write_config({}, still="1 s")
+    child = clinic.receive()
+    path = clinic.put("a.edf", NIGHT.piece())
+    path.chmod(0o600)
+    clinic.until(lambda: clinic.told().get("left_count"), "it is told")
+    left = [{"name": "a.edf", "answer": "can't be read: no permission"}]
+    for _ in range(60):
+        assert clinic.told()["left"] == left
+        time.sleep(0.05)
+    path.chmod(0o640)
+    clinic.until_taken()
+    clinic.stop(child)
+
+
+def test_a_file_that_fits_into_no_night_is_left(clinic: Clinic) -> None:
+    clinic.write_config({}, largest_night=f"{len(NIGHT.piece())} B")
+    child = clinic.receive()
+    clinic.put("large.edf", NIGHT.piece() + b"x")
+    clinic.until(lambda: clinic.told().get("left_count"), "it is told")
+    assert clinic.told()["left"][0]["answer"].endswith(" bytes, more than largest_night")
+    clinic.stop(child)
+
+
 def test_a_larger_file_is_left_and_a_full_night_takes_no_more(clinic: Clinic) -> None:
     size = len(NIGHT.piece())
     clinic.write_config({}, largest_file=f"{size} B", largest_night=f"{2 * size} B")
@@ -165,6 +189,31 @@ def test_a_killed_receive_loses_nothing_and_takes_nothing_away(clinic: Clinic) -
         other.stop(child)
         assert_nothing_is_lost(other, data)
         assert os.listdir(other.data / "r01/tonight/work") == []
+
+
+def test_what_was_told_is_kept_where_its_name_is_used_again_behind_a_kill(clinic: Clinic) -> None:
+    first, second, calls = NIGHT.piece(0, 20), NIGHT.piece(20, 40), clinic.folder / "calls"
+    os.chmod(clinic.folder, 0o777)
+    clinic.put("a.edf", first)
+    child = clinic.receive(calls=str(calls))
+    clinic.until_taken()
+    clinic.stop(child)
+    kept, = [nth for nth, line in enumerate(calls.read_text().splitlines(), 1)
+             if line.split()[1] == "rename" and "/work/" in line]
+    folder = clinic.folder / "other"
+    folder.mkdir()
+    other = Clinic(folder, clinic.programs, clinic.source)
+    other.put("a.edf", first)
+    child = other.receive(kill=[kept, "before"])
+    other.until(lambda: child.poll() is not None, "its end")
+    other.stop(child, signal.SIGKILL)
+    assert [line[3] for line in other.log()] == ["accepted new=20 known=0"]
+    other.put("a.edf", second)
+    child = other.receive()
+    other.until_taken()
+    other.stop(child)
+    taken = (other.data / "r01/tonight/taken").iterdir()
+    assert sorted(it.read_bytes() for it in taken) == sorted([first, second])
 
 
 def assert_nothing_is_lost(clinic: Clinic, data: bytes) -> None:

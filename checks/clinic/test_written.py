@@ -29,10 +29,11 @@ def test_what_is_written_after_it_was_taken_is_taken_again(clinic: Clinic, more:
         clinic.until(lambda: len(clinic.log()) == 2, "it is taken again")
         writer.write(OPEN[-5:])
     clinic.until(lambda: clinic.log()[-1][3].startswith("accepted"), "it is whole")
-    causes = {it["cause"]: it["text"] for it in clinic.status()["causes"]}
-    assert causes["written"].startswith('file "CURRENT.EDF" was taken at ') and len(causes) == 1
-    assert causes["written"].endswith(" and is still written to: have the recorder write "
-                                      "elsewhere and upload, or use .part")
+    said = clinic.done("status", status=1)
+    assert '  written: file "CURRENT.EDF": taken at ' in said
+    assert said.split("look: ")[1:] == [    # which is mailed, and names no file
+        "r01 written: 1 of its files were written to after they were taken: have the recorder write"
+        " elsewhere and upload, or use .part\n" + said.splitlines()[-1] + "\n"]
     clinic.stop(child)
     assert clinic.run("morning", "r01").status in (0, 1)
     assert_all_is_there(clinic.archive(), ("S-0118", NIGHT.truth()))
@@ -40,6 +41,7 @@ def test_what_is_written_after_it_was_taken_is_taken_again(clinic: Clinic, more:
 
 
 def test_what_is_still_written_when_the_morning_comes_is_a_look(clinic: Clinic) -> None:
+    clinic.write_config({}, still="2 s")        # for so long its writer may be kept waiting
     child = clinic.receive()
     path = clinic.put("CURRENT.EDF", NIGHT.piece())
     with open(path, "ab") as writer:
@@ -91,6 +93,23 @@ def test_an_upload_that_pauses_is_whole_in_the_end(clinic: Clinic) -> None:
     clinic.stop(child)
 
 
+def test_what_was_refused_is_told_while_another_file_of_its_name_comes(clinic: Clinic) -> None:
+    clinic.write_config({}, refuse="30 s")
+    child = clinic.receive()
+    clinic.put("CURRENT.EDF", NIGHT.piece(0, 20)[:-5])
+    clinic.until(lambda: clinic.told().get("waiting_count"), "it waits")
+    assert clinic.status()["causes"] == []
+    data = NIGHT.piece(20, 40, count="-1")
+    with open(clinic.put("CURRENT.EDF", data[:1_500]), "ab") as writer:
+        for at in range(1_500, 2_000, 20):
+            writer.write(data[at:at + 20])
+            writer.flush()
+            time.sleep(0.1)
+        assert clinic.told()["waiting_count"] == 0 and clinic.inbox() == ["CURRENT.EDF"]
+        assert [it["cause"] for it in clinic.status()["causes"]] == ["refused"]
+    clinic.stop(child)
+
+
 def test_a_file_that_gets_the_name_of_one_that_is_taken_out(clinic: Clinic) -> None:
     """Between the last look at the one that was taken and its end another is renamed over it."""
     clinic.put("other.part", NIGHT.piece(20, 40))
@@ -113,9 +132,21 @@ def test_two_small_files_with_which_a_night_would_be_huge(clinic: Clinic, monkey
     clinic.night_took({"b.edf": last})
     assert [line[3] for line in clinic.log()] == [
         "accepted new=400 known=0",
-        "refused: its texts would make the night larger than largest_export"]
+        "refused: with it night.edf might have more bytes than largest_export"]
     clinic.done("morning", "r01", status=1)
     assert_all_is_there(clinic.archive(), ("S-0118", night.truth(range(400))))
+
+
+def test_another_recorder_of_the_patient_makes_no_night_wider(clinic: Clinic) -> None:
+    """Its data records are large, and of a recording of its own."""
+    clinic.write_config({}, largest_export="1 MB")
+    night = NIGHT.later(records=400)
+    other = NIGHT.later(records=2, samples=(2_000,), start=night.at(401), investigation="N2")
+    clinic.night_took({"a.edf": night.piece(), "b.edf": other.piece()})
+    assert sorted(line[3] for line in clinic.log()) == [
+        "accepted new=2 known=0", "accepted new=400 known=0"]
+    clinic.done("morning", "r01", status=1)     # two recordings
+    assert_all_is_there(clinic.archive(), ("S-0118", night.truth()), ("S-0118", other.truth()))
 
 
 def test_a_morning_waits_for_no_receive_that_begins(clinic: Clinic) -> None:

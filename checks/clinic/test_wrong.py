@@ -23,13 +23,13 @@ WRONG: dict[str, Any] = {
         test_hostile.test_links_pipes_and_sockets_are_left_and_told),
     "looks, and then opens": (
         ("files.py", NO_LINK, "os.O_RDONLY | os.O_NONBLOCK"),
-        ("inbox.py", "if self.why_left(status) or key_of(status) != entry.key:", "if False:"),
-        ("inbox.py", "if count != key[1] or key_of(os.fstat(fd)) != key:", "if False:"),
+        ("inbox.py", "if self.why_left(status) or key_of(status) != it.key:", "if False:"),
+        ("inbox.py", "if count != it.key[1] or key_of(os.fstat(fd)) != it.key:", "if False:"),
         test_hostile.test_a_name_that_is_exchanged_between_the_look_and_the_opening),
     "moves in place of copying": (
-        ("inbox.py", "            return copy(fd, entry.key, target)\n",
-         "            os.rename(os.path.join(self.config.inboxes, self.name, entry.name), target)\n"
-         "            return files.sum_of(fd)\n"),
+        ("inbox.py", "            count, summed = files.copy(fd, target, it.key[1])\n",
+         "            os.rename(os.path.join(self.config.inboxes, self.name, it.name), target)\n"
+         "            count, summed = it.key[1], files.sum_of(fd)\n"),
         test_hostile.test_a_handle_that_is_kept_changes_nothing_after_the_answer),
     "waits for a lease": (
         ("files.py", NO_LINK, "os.O_RDONLY | os.O_NOFOLLOW"),
@@ -59,9 +59,9 @@ WRONG: dict[str, Any] = {
         ("plan.py", "if not any(it.answer.startswith(CONFLICTS) for it in cards):", "if True:"),
         test_morning.test_a_card_with_a_flipped_bit),
     "takes a file out of the inbox before it is told": (
-        ("receive.py", "                seen.line = self.take(",
-         "                self.inbox.take_out(entry, Line('', '', '', '', '0', ''))\n"
-         "                seen.line = self.take("),
+        ("receive.py", "                it.kept = it.line = self.take(it)\n",
+         "                self.inbox.take_out(it)\n"
+         "                it.kept = it.line = self.take(it)\n"),
         test_taking.test_a_killed_receive_loses_nothing_and_takes_nothing_away),
     "removes the morning from its plan on": (
         ("morning.py", "        files.rename(self.place.morning, self.gone)\n",
@@ -69,20 +69,19 @@ WRONG: dict[str, Any] = {
          "        files.rename(self.place.morning, self.gone)\n"),
         test_kills.test_killed_where_the_morning_ends),
     "keeps nothing open of what it took": (
-        ("inbox.py", "                self.keep_open(folder, entry, line)\n", ""),
+        ("inbox.py", "                self.keep_open(folder, it)\n", ""),
         test_written.test_what_is_still_written_when_the_morning_comes_is_a_look),
     "takes a file out by its name alone": (
-        ("inbox.py", "if key_of(os.stat(ASIDE, dir_fd=folder, follow_symlinks=False)) != entry.key:",
+        ("inbox.py", "if key_of(os.stat(ASIDE, dir_fd=folder, follow_symlinks=False)) != it.key:",
          "if False:"),
         test_written.test_a_file_that_gets_the_name_of_one_that_is_taken_out),
     "believes a name": (
-        ("place.py", "and (int(it.size), it.sum) in sums", "and it.name == later.name"),
+        ("place.py", "if summed.hexdigest() == it.sum and", "if it.name == later.name and"),
         test_written.test_a_name_that_is_used_again_hides_nothing),
     "does not tell a full disk": (
-        ("receive.py", "seen.full = str(why) if isinstance(why, Full) else \"\"",
-         "seen.full = \"\""),
-        ("status.py", "or disk_usage(config.data).free < files.PIECE and \"make room on disk\"",
-         "or \"\""),
+        ("receive.py", "it.full = str(why) if isinstance(why, Full) else \"\"",
+         "it.full = \"\""),
+        ("status.py", "\"make room on disk\" * is_full", "\"\""),
         test_disks.test_receive_on_a_full_disk_goes_on_when_there_is_room),
     "copies to a backup that is not mounted": (
         ("backup.py", "if not os.path.ismount(config.backup or \"/dev/null\"):", "if False:"),

@@ -90,7 +90,7 @@ def main() -> int:
             return run(words().parse_args())
         finally:
             sys.stdout.flush()
-    except Exception as why:
+    except (Exception, KeyboardInterrupt) as why:
         text.say(f"edfclinic: {text.why(why)}")
         for stream in (sys.stdout, sys.stderr):     # what it did not take goes nowhere
             os.dup2(os.open(os.devnull, os.O_WRONLY), stream.fileno())

@@ -40,7 +40,7 @@ def keep(place: Place, folder: str, root: str) -> list[str]:
 
 
 def backup(config: Config) -> int:
-    failed = ""
+    failed = "it was broken off"
     try:
         if not os.path.ismount(config.backup or "/dev/null"):
             raise Trouble(f"the backup {config.backup!r} is not mounted; nothing was copied")
@@ -54,4 +54,5 @@ def backup(config: Config) -> int:
         failed = why.strerror or "trouble" if isinstance(why, OSError) else text.why(why)
         raise Trouble(text.why(why)) from None
     finally:
-        files.replace(join(config.data, "backup.json"), files.as_json({"failed": failed}))
+        told = {"at": text.now(), "failed": failed}
+        files.replace(join(config.data, "backup.json"), files.as_json(told))

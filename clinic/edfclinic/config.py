@@ -11,6 +11,7 @@ from .text import Wrong
 DEFAULT = "/etc/edfclinic.toml"
 SIZES = {"B": 1, "kB": 10**3, "MB": 10**6, "GB": 10**9, "TB": 10**12}
 TIMES = {"s": 1, "min": 60, "h": 3600}
+WORDS = 'words, as ["mail", "root"]'
 NAME = re.compile(r"[a-z0-9][a-z0-9-]{0,31}")
 AMOUNT, CLOCK = re.compile(r"(\d{1,9}(?:\.\d{1,3})?) ?([A-Za-z]+)"), re.compile(r"(\d\d):([0-5]\d)")
 
@@ -71,12 +72,13 @@ def value(name: str, given: Any) -> Any:
     if name in ("watch", "ends"):
         begin, _, end = str(given).partition("-")
         return (clock(begin), clock(end)) if name == "watch" else clock(str(given))
+    if name in ("alarm", "mend") and isinstance(given, list) and {*map(type, given)} <= {str}:
+        return tuple(given)
     if name in ("by_onset", "expected", "mend") and isinstance(given, bool):
         return given if name != "mend" else () if given else None
-    if name in ("alarm", "mend", "by_onset", "expected"):
-        if name in ("by_onset", "expected") or not isinstance(given, list) or {*map(type, given)} - {str}:
-            raise ValueError('wants true or false, or words as ["mail", "root"]')
-        return tuple(given)
+    if name in ("alarm", "by_onset", "expected", "mend"):
+        raise ValueError("wants " + {"alarm": WORDS, "mend": f"true, false or {WORDS}"}.get(
+            name, "true or false"))
     if name == "backup" and given == "":
         return given
     if not isinstance(given, str) or not given.startswith("/") or "\0" in given:

@@ -128,18 +128,6 @@ def sum_of(fd: int) -> str:
         return hashlib.file_digest(file, "sha256").hexdigest()
 
 
-def prefix_sums(path: str, sizes: set[int]) -> set[tuple[int, str]]:
-    """With each of these sizes that the file reaches the sum of so many of its first bytes."""
-    found, summed, at = set(), hashlib.sha256(), 0
-    with opened(path) as fd:
-        for size in sorted(it for it in sizes if it <= os.fstat(fd).st_size):
-            while piece := os.pread(fd, min(PIECE, size - at), at):
-                summed.update(piece)
-                at += len(piece)
-            found.add((size, summed.hexdigest()))
-    return found
-
-
 def sum_of_file(path: str) -> str:
     with opened(path) as fd:
         return sum_of(fd)

@@ -1,11 +1,13 @@
 """Who may call: root, who becomes the owner of `data` before all else, and that owner. The folders
 of a recorder below `data`, their locks, and the log of what was answered."""
 import grp
+import hashlib
 import os
 import pwd
 import stat
-from collections.abc import Iterator
-from contextlib import ExitStack, contextmanager
+from collections.abc import Iterable, Iterator
+from contextlib import ExitStack, contextmanager, nullcontext
+from itertools import islice
 from typing import NamedTuple
 
 from . import files, text
@@ -153,21 +155,29 @@ class Log:
         return line
 
 
-def begun_by(refused: list[Line], later: Line, path: str) -> set[str]:
-    """Our names of those with all of which this later file begins. Many have the same head."""
-    sums = files.prefix_sums(path, {int(it.size) for it in refused[:MOST_BEGUN] if it.size})
-    return {it.file for it in refused[:MOST_BEGUN] if it.size and (int(it.size), it.sum) in sums
-            and (int(it.size) >= 256 or it.name == later.name)}
+def begun_by(refused: Iterable[Line], later: Line, path: str) -> set[str]:
+    """Our names of those with all of which this later file begins, if it is there. Many have the
+    same head."""
+    size = os.stat(path).st_size if files.exists(path) else 0
+    found, summed, at = set[str](), hashlib.sha256(), 0
+    asked = [it for it in islice(refused, MOST_BEGUN) if it.size and int(it.size) <= size]
+    with files.opened(path) if asked else nullcontext(-1) as fd:
+        for it in sorted(asked, key=lambda it: int(it.size)):
+            while piece := os.pread(fd, min(files.PIECE, int(it.size) - at), at):
+                summed.update(piece)
+                at += len(piece)
+            if summed.hexdigest() == it.sum and (at >= 256 or it.name == later.name):
+                found.add(it.file)
+    return found
 
 
 def came_whole(lines: list[Line], folder: str) -> set[str]:
     """The same of all that was accepted later; `folder` is tonight, or a morning."""
-    found, refused = set[str](), list[Line]()
+    found, refused = set[str](), dict[str, Line]()
     for line in lines:
-        path = join(folder, TAKEN, line.file)
         if not accepted(line.answer):
-            refused.append(line)
-        elif refused and files.exists(path):
-            found |= begun_by(refused, line, path)
-            refused = [it for it in refused if it.file not in found]
+            refused[line.file] = line
+            continue
+        for file in begun_by(refused.values(), line, join(folder, TAKEN, line.file)):
+            found.add(refused.pop(file).file)
     return found

@@ -9,6 +9,7 @@ import subprocess
 import tempfile
 import time
 from bisect import bisect_right
+from collections.abc import Sequence
 from contextlib import nullcontext, suppress
 from typing import IO, NamedTuple
 
@@ -19,10 +20,11 @@ from .text import Trouble
 SECONDS, BYTES_A_SECOND = 120, 500_000      # that a program has for a file
 MEMORY, WIDENED, MOST_RUNS = 4 << 30, 1 << 30, 500_000  # the last of a file, and of a night
 TOO_MANY = f"refused: it has more than {MOST_RUNS:,} gaps"
-TOO_WIDE = "refused: its texts would make the night larger than largest_export"
+TOO_LARGE = "refused: with it night.edf might have more bytes than largest_export"
 SAID, HUGE = 1 << 28, (0, 1, -signal.SIGXFSZ)       # bytes that one says; where it writes too many
 Room = tuple[int, int]                      # bytes of a file that it writes, and of memory
 C_LIBRARY, PR_SET_PDEATHSIG = ctypes.CDLL(None), 1
+TEXTS = b"EDF Annotations "             # the label of their signal
 RUN = re.compile(r"\d+ records=\d+ first=(\S+) seconds=([\d.]+)(?: .*)?")
 HELD = re.compile(r"(\d+) records=\d+ first=\S+ patient=(\S*) investigation=(\S*)")
 OF_THE_FILE, NEW = re.compile(r"refused(?::| E[123]?\d\b)"), re.compile(r"accepted new=(\d+)")
@@ -99,13 +101,15 @@ def code_of(path: str) -> str:
     return text.spell(os.fsdecode(head[8:].split(b" ")[0])) if head[:8] == b"0       " else ""
 
 
-def bytes_a_record(path: str) -> int:
-    """Of a file of EDF, by the samples of its head; 0 where it is none."""
+def widths(path: str) -> tuple[int, int]:
+    """The bytes of a data record by a file's head: of its signals, and with its texts."""
     with files.opened(path) as fd:
-        count = os.pread(fd, 4, 252).strip()
-        fields = os.pread(fd, 8 * int(count), 256 + 216 * int(count)) if count.isdigit() else b""
-    samples = [fields[at:at + 8].strip() for at in range(0, len(fields), 8)]
-    return 2 * sum(int(it) for it in samples if it.isdigit())
+        told = os.pread(fd, 4, 252).strip()
+        count = int(told) if told.isdigit() else 0
+        labels, samples = os.pread(fd, 16 * count, 256), os.pread(fd, 8 * count, 256 + 216 * count)
+    sizes = [(labels[2 * at:2 * at + 16] == TEXTS, 2 * int(samples[at:at + 8]))
+             for at in range(0, len(samples), 8) if samples[at:at + 8].strip().isdigit()]
+    return sum(size for is_text, size in sizes if not is_text), sum(size for _, size in sizes)
 
 
 def outline(path: str) -> list[Run] | None:
@@ -123,7 +127,7 @@ def outline(path: str) -> list[Run] | None:
     return runs
 
 
-def missing(runs: list[Run], held: list[Run]) -> int:
+def missing(runs: Sequence[Run], held: list[Run]) -> int:
     """Nanoseconds of these runs that the others, which are in order, lack."""
     lacks, ends = 0, [it.end for it in held]
     for run in runs:

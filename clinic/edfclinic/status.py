@@ -10,12 +10,18 @@ from typing import Any
 from . import config as configs
 from . import files, nights, text
 from .config import Config
-from .place import Place
+from .place import Place, check
 from .text import DONE, LOOK, Trouble, Wrong, named
 
 UNTOLD, ALARM_SECONDS = 300, 60     # after which nothing is known, or an alarm is ended
 DAY, WEEK = 24 * 3600.0, 7 * 24 * 3600.0
-LISTS, ACCEPTED = ("refused", "waiting", "left"), re.compile(r"^accepted new=(\d+) known=(\d+)$")
+LISTS, ACCEPTED = ("refused", "waiting", "left", "written"), re.compile(
+    r"^accepted new=(\d+) known=(\d+)$")
+# What receive counts, and what is to be done.
+COUNTED = {"refused": "of its files: give its card to morning",
+           "left": "in its inbox: its uploader must remove them",
+           "written": "of its files were written to after they were taken: have the recorder write "
+                      "elsewhere and upload, or use .part"}
 Cause = dict[str, str | None]
 HEAD = """<!doctype html><html lang="en"><meta charset="utf-8"><meta http-equiv="refresh"
 content="60"><title>Recorders</title>"""
@@ -37,8 +43,8 @@ def state_of(config: Config, place: Place, told: dict[str, Any]) -> tuple[str, s
         return "stopped", f"no receive runs: systemctl start {unit}"
     if not told or abs(age) > UNTOLD:       # also where the host's clock was set back
         return "unknown", f"nothing was told for 5 minutes: systemctl restart {unit}"
-    if told["inbox"] or told["trouble"]:
-        return "unknown", f"{told['inbox'] or told['trouble']}; if it lasts, ask the engineer"
+    if told["trouble"]:
+        return "unknown", f"{told['trouble']}; if it lasts, ask the engineer"
     is_expected = config.recorders[place.name].expected
     silence = told["silence"] + age if told["last"] else 60 * watched * is_expected
     if silence > config.silent and is_watched:
@@ -47,29 +53,23 @@ def state_of(config: Config, place: Place, told: dict[str, Any]) -> tuple[str, s
 
 
 def causes_of(config: Config, place: Place, told: dict[str, Any]) -> Iterator[tuple[str, str]]:
-    """Why somebody must look, and what to do."""
-    name, recorder = place.name, config.recorder(place.name)
-    if full := told.get("full") or disk_usage(config.data).free < files.PIECE and "make room on disk":
+    """Why somebody must look, and what to do. It is mailed: so no name of a file is in it."""
+    name, begun = place.name, told.get("begun")
+    is_full = disk_usage(config.data).free < files.PIECE
+    if full := told.get("full") or "make room on disk" * is_full:
         yield "full", f"{full}; it goes on by itself"
     if files.exists(place.morning) and not files.is_locked(place.changing):
         yield "morning", f"call edfclinic morning {name} again, with the same --card FILE if a " \
             "card was given"
-    if count := told.get("refused_count"):
-        yield "refused", f"{count} of its files: give its card to morning"
-    if count := told.get("left_count"):
-        yield "left", f"{count} in its inbox: its uploader must remove them"
-    if told.get("is_crowded"):
-        yield "left", "its inbox has more entries than are looked at: its uploader must remove some"
-    begun = told.get("begun")
-    if begun and text.seconds_since(begun) > 60 * minutes_since(recorder.ends):
+    for kind, what in COUNTED.items():
+        if count := told.get(f"{kind}_count"):
+            yield kind, f"{count} {what}"
+    if begun and text.seconds_since(begun) > 60 * minutes_since(config.recorder(name).ends):
         yield "waiting", f"what came since {text.here(begun)} is not put away: " \
             f"call edfclinic morning {name}"
     for folder in nights.strays(place):
         yield "rest", f"{folder} has files of patients who had no night: read its answers.log, " \
             f"then edfclinic seen {name}/{os.path.basename(folder)} --why TEXT"
-    for it in told.get("written", [])[-1:]:
-        yield "written", f"{named('file', it['name'])} was taken at {text.here(it['answer'])} and " \
-            "is still written to: have the recorder write elsewhere and upload, or use .part"
 
 
 def recorder(config: Config, place: Place) -> dict[str, Any]:
@@ -81,20 +81,29 @@ def recorder(config: Config, place: Place) -> dict[str, Any]:
             **{it: told.get(it, []) for it in LISTS}, **{it: told.get(it, 0) for it in numbers}}
 
 
+def why_not_run(config: Config, command: str) -> str:
+    """Of one that a timer calls, which writes how it ended. It is due from the first morning on."""
+    last = files.from_json(os.path.join(config.data, f"{command}.json")) or {}
+    locks = [Place(config, it).changing for it in config.recorders]
+    begun = [os.stat(it).st_mtime for it in locks if files.exists(it)]
+    age = time.time() - min(begun, default=time.time())
+    age = text.seconds_since(last["at"]) if "at" in last else age
+    return last.get("failed") or "it did not run for a week" * (age > WEEK)
+
+
 def of_the_archive(config: Config, free: int) -> Iterator[tuple[str, str]]:
     if free < config.free_space:
         yield "free_space", f"{free / 1e9:.1f} GB are free: make room"
-    last = files.from_json(os.path.join(config.data, "verify.json")) or {}
-    locks = [Place(config, it).changing for it in config.recorders]
-    begun = [os.stat(it).st_mtime for it in locks if files.exists(it)]      # by the first morning
-    age = text.seconds_since(last["at"]) if last else time.time() - min(begun, default=time.time())
-    if why := last.get("failed") or age > WEEK and "it did not run for a week":
-        yield "verify", f"{why}: call edfclinic verify, and ask the engineer"
-    if config.backup:
-        why = (files.from_json(os.path.join(config.data, "backup.json")) or {}).get("failed")
-        why = why if os.path.ismount(config.backup) else f"{config.backup} is not mounted"
-        if why:
-            yield "backup", f"{why}: mend that, then call edfclinic backup"
+    try:
+        check(config.data, config.nights)
+    except Trouble as why:
+        yield "trouble", str(why)
+    if failed := why_not_run(config, "verify"):
+        yield "verify", f"{failed}: call edfclinic verify, and ask the engineer"
+    is_there = os.path.ismount(config.backup)
+    failed = why_not_run(config, "backup") if is_there else f"{config.backup} is not mounted"
+    if config.backup and failed:
+        yield "backup", f"{failed}: mend that, then call edfclinic backup"
 
 
 def look(config: Config) -> dict[str, Any]:
@@ -109,15 +118,17 @@ def look(config: Config) -> dict[str, Any]:
 def status(config: Config, is_json: bool, is_html: bool, is_telling: bool) -> int:
     try:
         found = look(config)
-    except (Trouble, OSError) as why:
+    except Exception as why:
         if is_telling:
             tell(config.alarm, config.data, [cause_of("trouble", why)])
         raise
     print(files.as_json(found).decode() if is_json else "\n".join(lines(found)))
-    if is_html:
-        files.replace(os.path.join(config.nights, "status.html"), page(found).encode())
-    if is_telling:
-        tell(config.alarm, config.data, found["causes"])
+    try:
+        if is_telling:
+            tell(config.alarm, config.data, found["causes"])
+    finally:
+        if is_html:
+            files.replace(os.path.join(config.nights, "status.html"), page(found).encode())
     return LOOK if found["causes"] else DONE
 
 
@@ -132,13 +143,13 @@ def cause(it: Cause) -> str:
 def lines(found: dict[str, Any]) -> list[str]:
     said = []
     for name, it in found["recorders"].items():
-        counts = ", ".join(f"{it[f'{kind}_count']} {kind}" for kind in LISTS) + " alone"
-        said.append(f"{name} {it['state']}: {it['accepted']} accepted, {counts}, "
+        said.append(f"{name} {it['state']}: {it['accepted']} accepted, {it['refused_count']} "
+                    f"refused, {it['waiting_count']} waiting, {it['left_count']} left alone, "
                     f"{it['gap_minutes']} minutes of gaps")
+        told = [("last", it["last"])] if it["last"] else []
+        told += [(kind, of) for kind in LISTS for of in it[kind]]
         said += [f"  {kind}: {named('file', of['name'])}: " + ACCEPTED.sub(
-            r"accepted, \1 data records new, \2 known", of["answer"])
-            for kind in ("last", *LISTS) for of in (it[kind] or [] if kind != "last"
-                                                    else [it["last"]] * bool(it["last"]))]
+            r"accepted, \1 data records new, \2 known", of["answer"]) for kind, of in told]
     said += [f"look: {cause(it)}" for it in found["causes"]]
     return said + [f"{found['free_bytes'] / 1e9:.1f} GB are free"]
 

@@ -47,10 +47,12 @@ def spell_lines(raw: bytes) -> list[str]:
     return [spell(line) for line in os.fsdecode(raw).split("\n") if line]
 
 
-def why(error: Exception) -> str:
+def why(error: BaseException) -> str:
     if isinstance(error, OSError) and error.strerror:
         room = "; make room" if error.errno in FULL else ""
-        return spell(f"{os.fsdecode(error.filename or 'trouble')}: {error.strerror}{room}")
+        named = isinstance(error.filename, (str, bytes))    # else it is a number, or none
+        where = os.fsdecode(error.filename) if named else "trouble"
+        return spell(f"{where}: {error.strerror}{room}")
     return spell(str(error) or type(error).__name__)
 
 

@@ -6,15 +6,21 @@ from . import files, programs, text
 from .config import Recorder
 from .files import join
 from .inbox import Later
-from .place import LOG, REFUSED, STORE, TAKEN, WORK, Line, Log, Place, begun_by, came_whole, read_log
+from .place import LOG, REFUSED, STORE, TAKEN, WORK, Line, Log, Place, begun_by, read_log
 from .programs import CONFLICTS, Run, accepted, missing
 
 KEPT = 1_000                # refused files
 STAMP = 32                  # bytes by which an export may widen each data record besides
-# Contents as they were answered: the file that was given to the session, its patient's code, the
-# bytes of its data records.
-Came = NamedTuple("Came", [("line", Line), ("given", str), ("code", str), ("width", int),
-                           ("runs", list[Run])])
+
+
+class Came(NamedTuple):
+    """Contents as they were answered: the file that was given to the session, its patient's code,
+    the bytes of its data records (of their signals, and with their texts), its runs."""
+    line: Line
+    given: str = ""
+    code: str = ""
+    widths: tuple[int, int] = 0, 0
+    runs: tuple[Run, ...] = ()
 
 
 def merged(runs: list[Run]) -> list[Run]:
@@ -30,10 +36,14 @@ class Tonight:
     def __init__(self, recorder: Recorder, place: Place):
         self.recorder, self.place = recorder, place
         files.make_folder(place.tonight)
-        files.remove_tree(self.path(WORK))
         for name in (WORK, TAKEN, REFUSED):
             files.make_folder(self.path(name))
         self.lines = read_log(self.path(LOG))
+        for line in self.lines[-1:]:        # where a kill came between it and its file
+            copied = self.path(WORK, line.file)
+            if files.exists(copied) and not files.exists(self.kept_as(line)):
+                files.rename(copied, self.kept_as(line))
+        self.clear_work()
         self.known = {it[2:]: it for it in self.lines if not accepted(it.answer)}
         names = [(of, it) for of in (TAKEN, REFUSED) for it in files.names(self.path(of))]
         self.bytes = sum(os.stat(self.path(*it)).st_size for it in names)
@@ -41,17 +51,13 @@ class Tonight:
         used = [*(it for _, it in names), *(it.file for it in [*self.lines, *read_log(
             join(place.morning, LOG))])]
         self.next = 1 + max((int(name[:-4]) for name in used if name[:-4].isdigit()), default=0)
-        self.runs: dict[str, list[Run]] = {}        # these three by the patient's code
-        self.records: dict[str, int] = {}
-        self.widest: dict[str, int] = {}
+        self.runs: dict[str, list[Run]] = {}        # by the patient's code
+        # By it and the bytes of the signals: how many data records, and the widest.
+        self.records: dict[tuple[str, int], tuple[int, int]] = {}
         self.lacking: dict[str, Came] = {}          # what was refused, by our names
-        came = came_whole(self.lines, place.tonight)
+        self.gap, self.is_reckoned = 0, False
         for line in self.lines:
-            if accepted(line.answer):
-                self.add(self.again(line, TAKEN))
-            elif line.file not in came:
-                self.lacking[line.file] = self.again(line, REFUSED)
-        self.reckon()
+            self.add(self.again(line))
         self.log = Log(self.path(LOG))
 
     def path(self, *names: str) -> str:
@@ -60,19 +66,22 @@ class Tonight:
     def name(self) -> str:
         return f"{self.next:06}.edf"
 
-    def again(self, line: Line, folder: str) -> Came:
+    def kept_as(self, line: Line) -> str:
+        return self.path(TAKEN if accepted(line.answer) else REFUSED, line.file)
+
+    def again(self, line: Line) -> Came:
         """What was answered before this began. A morning need not wait till all is known."""
         if files.is_locked(self.place.wanted):
             raise Later
-        path = self.path(folder, line.file)
-        came = self.outlined(line, path) if files.exists(path) else Came(line, "", "", 0, [])
+        path = self.kept_as(line)
+        came = self.outlined(line, path) if files.exists(path) else Came(line)
         self.clear_work()
         return came
 
     def outlined(self, line: Line, path: str) -> Came:
         given = programs.prepared(path, self.path(WORK), self.recorder)
-        return Came(line, given, programs.code_of(given), programs.bytes_a_record(given),
-                    programs.outline(given) or [])
+        return Came(line, given, programs.code_of(given), programs.widths(given),
+                    tuple(programs.outline(given) or ()))
 
     def clear_work(self) -> None:
         for name in files.names(self.path(WORK)):
@@ -83,56 +92,62 @@ class Tonight:
         store = [it for it in files.names(self.path()) if it.startswith(STORE)]
         return self.bytes + sum(os.stat(self.path(it)).st_size for it in store)
 
-    def why_not(self, came: Came, widest: int) -> str:
-        """The refusal of what a morning could not put away."""
+    def why_not(self, came: Came, largest: int) -> str:
+        """The refusal of what a morning might not put away. Each data record of an export has the
+        room of the widest, and those of other signals are of another export."""
         if sum(map(len, self.runs.values())) + len(came.runs) > programs.MOST_RUNS:
             return programs.TOO_MANY
-        count = os.stat(came.given).st_size // max(1, came.width)
-        count += self.records.get(came.code, 0)
-        width = max(self.widest.get(came.code, 0), came.width) + STAMP
-        return programs.TOO_WIDE if came.width and count * width > widest else ""
+        signals, width = came.widths
+        held, widest = self.records.get((came.code, signals), (0, 0))
+        count = held + os.stat(came.given).st_size // max(1, width)
+        is_large = count * (max(widest, width) + STAMP) > largest
+        return programs.TOO_LARGE if came.runs and is_large else ""
 
     def add(self, came: Came) -> None:
-        code, new = came.code, programs.NEW.match(came.line.answer)
-        self.runs[code] = self.runs.get(code, []) + came.runs
-        self.records[code] = self.records.get(code, 0) + (int(new[1]) if new else 0)
-        self.widest[code] = max(self.widest.get(code, 0), came.width)
+        """What was refused is lacked till an accepted file begins with all of it. Of how many runs
+        that has there is a limit; of what has more nobody reckons minutes."""
+        line, self.is_reckoned = came.line, False
+        if new := programs.NEW.match(line.answer):
+            self.runs[came.code] = merged([*self.runs.get(came.code, ()), *came.runs])
+            of, width = (came.code, came.widths[0]), came.widths[1]
+            held, widest = self.records.get(of, (0, 0))
+            self.records[of] = held + int(new[1]), max(widest, width)
+            refused = (it.line for it in self.lacking.values())
+            for file in begun_by(refused, line, self.kept_as(line)):
+                self.lacking.pop(file)
+        else:
+            is_known = not came.runs or programs.MOST_RUNS >= len(came.runs) + sum(
+                len(it.runs) for it in self.lacking.values())
+            self.lacking[line.file] = came if is_known else came._replace(runs=())
 
     def reckon(self) -> None:
         """Minutes that nobody sent, and what was refused of which the night lacks something."""
-        self.runs = {code: merged(runs) for code, runs in self.runs.items()}
+        if self.is_reckoned:
+            return
         runs = merged([run for those in self.runs.values() for run in those])
         lacks = [after.first - before.end for before, after in zip(runs, runs[1:])]
         self.gap = sum(it for it in lacks if it < self.recorder.pause * text.SECOND)
         self.lacking = {file: it for file, it in self.lacking.items()
                         if not it.runs or it.line.answer.startswith(CONFLICTS)
                         or missing(it.runs, self.runs.get(it.code, []))}
+        self.is_reckoned = True
 
     def keep(self, came: Came, before: Line | None) -> Line:
         """Tells it, and then keeps it; the same contents of a name are refused once. What they had
         before, and begin with, goes. Of what is refused 1,000 files are kept."""
         is_accepted = accepted(came.line.answer)
         line = self.known.get(came.line[2:]) or self.tell(came.line)
-        path = self.path(TAKEN if is_accepted else REFUSED, line.file)
+        path = self.kept_as(line)
         if is_accepted or self.kept < KEPT and not files.exists(path):
             files.rename(self.path(WORK, came.line.file), path)
             self.bytes, self.kept = self.bytes + int(line.size), self.kept + (not is_accepted)
-        if is_accepted:
-            self.add(came)
-            for file in begun_by([it.line for it in self.lacking.values()], line, path):
-                self.lacking.pop(file)
-        else:
-            self.lacking[line.file] = came._replace(line=line)
+        self.add(came._replace(line=line))
         old = self.path(REFUSED, before.file) if before and before.file != line.file else ""
-        if before and files.exists(old) and files.exists(path) and begun_by([before], line, path):
+        if before and files.exists(old) and begun_by([before], line, path):
             files.remove(old)
             self.bytes, self.kept = self.bytes - int(before.size), self.kept - 1
             self.lacking.pop(before.file, None)
-        self.reckon()
         return line
-
-    def lack(self, line: Line) -> None:
-        self.lacking[line.file] = Came(line, "", "", 0, [])
 
     def tell(self, told: Line) -> Line:
         line = self.log.add(*told[1:])
