@@ -12,6 +12,7 @@ from typing import Any
 
 import pytest
 
+from checks.clinic.test_wrong import WRONG as OTHERS
 from checks.clinic.test_wrong import wrong_source
 from checks.clinic.week import Week
 from checks.lib.arguments import TOP
@@ -32,14 +33,12 @@ WRONG: dict[str, tuple[list[tuple[str, str, str]], dict[str, Any]]] = {
         ("morning.py", "if not is_receiving(self.place):", "if False:")],
         {"faults": ["stopped"], "stops": 0, "starts": False}),
     "does not see that a writer goes on": ([
-        ("inbox.py", "if os.fstat(fd).st_ino == entry.key[0]:", "if False:")],
+        *OTHERS["keeps nothing open of what it took"][:-1]],
         {"faults": ["pauses"], "count": "right", "ends": True, "pause": 150, "cards": 0}),
     "gives a refused file to the first night": ([
         ("giving.py", "return self.rest if is_strange else own[0]",
          "return (own or self.parts)[0]")], {"faults": ["other person"], "lacks": -3}),
-    "forgets by folder": ([
-        ("forget.py", "*nights.sums(folder)} - {*rest, LOG, SUMS, WHOSE}",
-         "*nights.sums(folder)} - {LOG, SUMS, WHOSE}")],
+    "forgets by folder": ([*OTHERS["forgets what is another's"][:-1]],
         {"faults": ["other person", "wrong piece"], "lacks": None, "hours": -3,
          "damage": "no head"}),
     "lays each card with the first night": ([
@@ -47,7 +46,7 @@ WRONG: dict[str, tuple[list[tuple[str, str, str]], dict[str, Any]]] = {
          "        own = self.parts[:1]\n        nth ="),
         ("giving.py", "return self.rest if is_strange else own[0]",
          "return own[0] if own else self.rest")],
-        {"faults": ["other person", "other card"], "beds": 1, "lacks": None, "hours": 2,
+        {"faults": ["other person", "other card"], "lacks": None, "hours": 2,
          "night": -1}),
     "says that all is well whatever else must be looked at": ([
         ("morning.py", "said = making.told(made, (), not self.looks)",
@@ -63,13 +62,12 @@ WRONG: dict[str, tuple[list[tuple[str, str, str]], dict[str, Any]]] = {
          "            for file in given[:-1]:\n                if accepted")],
         {"faults": [], "cards": 0}),
     "drops what was refused and is written over": ([
-        ("tonight.py", "if before and files.exists(old) and files.exists(path) and "
-         "begun_by([before], line, path):", "if before and files.exists(old):")],
+        ("tonight.py", "if before and files.exists(old) and begun_by([before], line, path):",
+         "if before and files.exists(old):")],
         {"faults": ["one name"], "damage": "cut", "part": 0, "pause": 150, "cards": 0}),
     "recodes a night, and keeps the code in its files": ([
         ("recode.py", "it, \"--set-patient\", code]", "it, \"--set-patient\", "
-         "before[\"patient\"]]"), ("recode.py", "if nights.sums(it).get(NIGHT) == wanted]",
-                                   "if False]")],
+         "before[\"patient\"]]")],
         {"faults": [], "recodes": 2})}
 
 

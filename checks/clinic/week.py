@@ -26,13 +26,14 @@ Drawn = TypeVar("Drawn")
 
 
 class Week(Running):
-    """`wanted` has what is not by chance, by the names of what is drawn; then its faults come each
-    day."""
+    """`wanted` has what is not by chance, by the names of what is drawn. Such a week is short, and
+    has its faults each day."""
 
     def __init__(self, seed: int, folder: Path, programs: Path, source: Path = TOP / "clinic",
                  wanted: dict[str, Any] | None = None):
         self.chance = random.Random(seed)
-        self.wanted: dict[str, Any] = {"fails": True, **wanted} if wanted else {}
+        self.wanted: dict[str, Any] = {"fails": True, "beds": 1, "days": 2, **wanted} \
+            if wanted else {}
         names = ("r01", "r02")[:self.draw("beds", 1, 2)]
         mend = self.draw("mend", True, False, False, False)
         tables = {it: {"mend": mend, "by_onset": self.draw("by onset", True, False, False, False)}
