@@ -25,10 +25,10 @@ DAMAGES = "cut", "half", "date", "no head", "sample", "overlaps"
 def pauses(week: Week, bed: Bed) -> None:
     """A recorder that records onto the share pauses longer than receive waits, and goes on."""
     nth = week.chance.randrange(len(bed.parts))
-    part = bed.parts[nth]
+    part, kind = bed.parts[nth], week.draw("kind", "", "", "", ".part")
 
     def begin() -> None:
-        it = week.open_writer(bed, f"n{bed.night.start:%d%H%M}.edf", part,
+        it = week.open_writer(bed, f"n{bed.night.start:%d%H%M}.edf{kind}", part,
                               week.draw("count", "right", "right", "open", "all"))
         week.write(bed, it, week.chance.randrange(1, 1 + len(part)))
     bed.steps[nth] = begin
@@ -45,21 +45,15 @@ def one_name(week: Week, bed: Bed) -> None:
 
 def damaged(week: Week, bed: Bed, name: str, part: list[int], is_wrong: bool = True) -> None:
     """Cut, of another date or nothing in its head, or with another sample in a data record."""
-    data, changed = bed.night.piece(part[0], part[-1] + 1), dict[int, bytes]()
-    kind = week.draw("damage", *DAMAGES) if is_wrong else ""
-    if kind == "cut":
-        data = data[:-week.chance.randrange(1, 9)]
-    elif kind == "half":
-        data = data[:week.chance.randrange(200, len(data))]
-    elif kind == "date":
-        data = data[:168] + data[168:176].replace(b".", b"/") + data[176:]
-    elif kind == "no head":
-        data = bytes(256) + data[256:]
-    elif kind:      # the one before came otherwise, where it came
-        part = [part[0] - 1, *part] if kind == "overlaps" and part[0] else part
+    kind, changed = week.draw("damage", *DAMAGES) if is_wrong else "", dict[int, bytes]()
+    end = {"cut": -week.chance.randrange(1, 9), "half": -week.chance.randrange(40, 400)}.get(kind)
+    if kind == "overlaps" and part[0]:      # the one before came otherwise, where it came
+        part = [part[0] - 1, *part]
+    if kind in ("sample", "overlaps"):
         changed = {part[0]: week.flipped(bed.night, part[0])}
-        data = bed.night.piece(part[0], part[-1] + 1, changed=changed)
-    week.put(bed, name, data, bed.night, part, changed)
+    week.put(bed, name, week.truth.file(bed.night, part, changed, spoil=lambda data: {
+        "date": data[:168] + data[168:176].replace(b".", b"/") + data[176:],
+        "no head": bytes(256) + data[256:]}.get(kind, data[:end])))
 
 
 def wrong_piece(week: Week, bed: Bed) -> None:
@@ -88,17 +82,17 @@ def other_person(week: Week, bed: Bed) -> None:
     night = bed.night.later(patient=f"{code} X X X", seed=f"{bed.night.seed} {code}", start=start,
                             records=9)
     bed.nights.append(night)
-    data = night.piece()[:week.draw("lacks", None, -3, -3)]
+    end = week.draw("lacks", None, -3, -3)
+    data = week.truth.file(night, spoil=lambda it: it[:end])
     bed.steps.insert(week.chance.randrange(len(bed.steps) + 1),
-                     partial(week.put, bed, "other.edf", data, night, list(range(9))))
+                     partial(week.put, bed, "other.edf", data))
 
 
 def other_night(week: Week, bed: Bed) -> None:
     """A piece of an earlier night comes, for the first time or again."""
     night = week.chance.choice(bed.nights)
-    end = week.chance.randrange(1, night.records)
-    bed.steps.append(lambda: week.put(bed, "again.edf", night.piece(0, end), night,
-                                      list(range(end))))
+    data = week.truth.file(night, list(range(week.chance.randrange(1, night.records))))
+    bed.steps.append(partial(week.put, bed, "again.edf", data))
 
 
 def mistyped(week: Week, bed: Bed) -> None:
@@ -111,10 +105,9 @@ def mistyped(week: Week, bed: Bed) -> None:
 
 def left_alone(week: Week, bed: Bed) -> None:
     """A file that its uploader lets nobody read."""
-    part = bed.parts[0]
     name = f"left{bed.night.start:%d}.edf"      # nobody could know of one that is written over
-    bed.steps[0] = lambda: week.put(bed, name, bed.night.piece(part[0], part[-1] + 1), bed.night,
-                                    part).chmod(0o600)
+    data = week.truth.file(bed.night, bed.parts[0])
+    bed.steps[0] = lambda: week.put(bed, name, data).chmod(0o600)
 
 
 def nothing(_: Week, bed: Bed) -> None:
@@ -125,23 +118,25 @@ def nothing(_: Week, bed: Bed) -> None:
 
 def late_card(week: Week, bed: Bed) -> None:
     """It comes with a later morning, or with one of its own."""
-    bed.late, bed.cards = [week.card(bed, bed.night)], bed.late
+    bed.late, bed.cards = [week.card(bed, week.truth.file(bed.night))], bed.late
 
 
 def wrong_card(week: Week, bed: Bed) -> None:
-    kind, night = week.chance.choice(("flipped", "cut", "junk")), bed.night
+    """With another sample; cut, or no card at all, maybe beside the right one."""
+    kind, nth = week.chance.choice(("flipped", "cut", "junk")), week.chance.randrange(12)
     if kind == "flipped":
-        nth = week.chance.randrange(night.records)
-        bed.cards = [week.card(bed, night, changed={nth: week.flipped(night, nth)})]
+        changed = {nth: week.flipped(bed.night, nth)}
+        bed.cards = [week.card(bed, week.truth.file(bed.night, changed=changed))]
     else:
-        data = night.piece()[:-5] if kind == "cut" else b"no card"
-        bed.cards.insert(0, week.card(bed, night, data))
+        bed.cards.insert(0, week.card(bed, week.truth.file(
+            bed.night, spoil=lambda data: data[:-5] if kind == "cut" else b"no card")))
 
 
 def other_card(week: Week, bed: Bed) -> None:
     """Of another night, of another recorder's, of another person; maybe beside the right one."""
     nights = week.chance.choice(week.beds).nights
-    bed.cards.append(week.card(bed, nights[week.draw("night", *range(-len(nights), 0))]))
+    night = nights[week.draw("night", *range(-len(nights), 0))]
+    bed.cards.append(week.card(bed, week.truth.file(night)))
 
 
 def forgotten(_: Week, bed: Bed) -> None:

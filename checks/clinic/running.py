@@ -114,16 +114,14 @@ class Running:
     def begun(self, words: tuple[Any, ...], out: str, pipes: tuple[int, ...] = ()) -> int:
         child = os.fork()
         if not child:
-            status: object = FAILED
+            status = FAILED
             try:
                 status = self.edfclinic([*map(str, words)], str(self.outs / out), pipes)
-            except SystemExit as ended:
-                status = ended.code or 0
             except BaseException:
                 traceback.print_exc()
             finally:
                 sys.stdout.flush()
-                os._exit(status if isinstance(status, int) else FAILED)
+                os._exit(status)
         return child
 
     def edfclinic(self, words: list[str], out: str, pipes: tuple[int, ...]) -> int:

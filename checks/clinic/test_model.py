@@ -34,7 +34,8 @@ WRONG: dict[str, tuple[list[tuple[str, str, str]], dict[str, Any]]] = {
         {"faults": ["stopped"], "stops": 0, "starts": False}),
     "does not see that a writer goes on": ([
         *OTHERS["keeps nothing open of what it took"][:-1]],
-        {"faults": ["pauses"], "count": "right", "ends": True, "pause": 150, "cards": 0}),
+        {"faults": ["pauses"], "kind": "", "count": "right", "ends": True, "pause": 150,
+         "cards": 0}),
     "gives a refused file to the first night": ([
         ("giving.py", "return self.rest if is_strange else own[0]",
          "return (own or self.parts)[0]")], {"faults": ["other person"], "lacks": -3}),

@@ -4,7 +4,7 @@ import hashlib
 import json
 import re
 from collections import Counter
-from collections.abc import Iterator
+from collections.abc import Callable, Iterator
 from dataclasses import dataclass
 from pathlib import Path
 from typing import Any
@@ -45,18 +45,21 @@ class Truth:
         # What came to a recorder, and is in no night, and was not told.
         self.came: dict[str, set[bytes]] = {it: set() for it in clinic.recorders}
 
-    def piece(self, data: bytes, night: Recording, numbers: list[int],
-              changed: dict[int, bytes] | None = None) -> Piece:
-        """Of a file that was made of these data records, whole or cut."""
+    def file(self, night: Recording, numbers: list[int] | None = None,
+             changed: dict[int, bytes] | None = None, count: str = "",
+             spoil: Callable[[bytes], bytes] = bytes) -> bytes:
+        """A file of these data records, else of all, as it is spoilt; what it has is known then."""
+        numbers = numbers or list(range(night.records))
+        data = spoil(night.piece(numbers[0], numbers[-1] + 1, count, changed=changed))
         width, head = night.header(0, "1").record_bytes(), 256 * (len(night.samples) + 2)
         samples = {nth: (changed or {}).get(nth, night.samples_of(nth))
                    for nth in numbers[:max(0, len(data) - head) // width]}
         owner = night.patient.split()[0]
         self.recorded |= {it: (owner, night.instant(nth)) for nth, it in samples.items()}
         is_head = data[:8] == b"0       " and len(data) >= 88
-        made = Piece(codes_in(data) if is_head else "", owner, frozenset(samples.values()))
-        self.pieces[summed(data)] = made
-        return made
+        self.pieces[summed(data)] = Piece(codes_in(data) if is_head else "", owner,
+                                          frozenset(samples.values()))
+        return data
 
     def known(self, path: Path) -> Piece:
         data = path.read_bytes()

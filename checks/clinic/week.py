@@ -52,16 +52,11 @@ class Week(Running):
 
     # What recorders do.
 
-    def name_of(self, bed: Bed, part: list[int]) -> str:
-        return f"{bed.night.start:%d%H%M}-{part[0]:02}.edf"
-
     def flipped(self, night: Recording, nth: int) -> bytes:
         raw = night.samples_of(nth)
         return bytes([raw[0] ^ 1 << self.chance.randrange(8)]) + raw[1:]
 
-    def put(self, bed: Bed, name: str, data: bytes, night: Recording, numbers: list[int],
-            changed: dict[int, bytes] | None = None) -> Path:
-        piece = self.truth.piece(data, night, numbers, changed)
+    def put(self, bed: Bed, name: str, data: bytes) -> Path:
         path = self.clinic.inboxes / bed.name / name
         if path.exists():       # written over by its uploader, maybe before anybody could see it
             seen = max(bed.since, path.stat().st_mtime - START.timestamp())
@@ -71,9 +66,9 @@ class Week(Running):
                 self.lose(bed, before)
         self.clinic.put(name, data, bed.name)
         self.stamp(path)
+        piece = self.truth.known(path)
         self.truth.came[bed.name] |= piece.records
-        self.say(f"{bed.name} gets {name}: {piece.code}, {len(piece.records)} of {numbers[:1]} to "
-                 f"{numbers[-1:]}")
+        self.say(f"{bed.name} gets {name}: {piece.code}, {len(piece.records)} data records")
         return path
 
     def lose(self, bed: Bed, gone: set[bytes] | frozenset[bytes]) -> None:
@@ -98,12 +93,10 @@ class Week(Running):
         there = it.numbers[:it.written]
         told = it.written if is_end or it.count == "right" else {
             "all": len(it.numbers), "open": -1}[it.count]
-        data = it.night.piece(there[0], there[-1] + 1, count=str(told))
-        piece = self.truth.piece(data, it.night, there)
-        os.pwrite(it.fd, data, 0)
+        os.pwrite(it.fd, self.truth.file(it.night, there, count=str(told)), 0)
         self.stamp(it.fd)
         if it.path.suffix != ".part":
-            self.truth.came[bed.name] |= piece.records
+            self.truth.came[bed.name] |= {it.night.samples_of(nth) for nth in there}
         self.say(f"{bed.name} writes {it.path.name}: {it.written} of {len(it.numbers)}, count "
                  f"{told}{', which was taken' * (os.fstat(it.fd).st_nlink == 0)}")
         self.advance(2)
@@ -182,19 +175,12 @@ class Week(Running):
                 self.write(bed, it, chance.choice((0, 1, 3)))
 
     def send(self, bed: Bed, part: list[int]) -> None:
-        """A piece as good recorders send it: whole, or slowly, without a pause."""
-        night, name, kind = bed.night, self.name_of(bed, part), self.chance.random()
-        if kind < 0.8:
-            count = "-1" if kind < 0.1 else ""
-            self.put(bed, name, night.piece(part[0], part[-1] + 1, count), night, part)
-        else:
-            it = self.open_writer(bed, f"{name}.part" if kind < 0.9 else f"slow-{name}", part,
-                                  self.chance.choice(("all", "right", "open")))
-            self.write(bed, it, 2)
-            self.end_writer(bed, it)
+        count = self.chance.choice(("", "", "", "-1"))
+        name = f"{bed.night.start:%d%H%M}-{part[0]:02}.edf"
+        self.put(bed, name, self.truth.file(bed.night, part, count=count))
 
     def one_morning(self, bed: Bed) -> None:
-        bed.cards = [self.card(bed, bed.night)] * self.draw("cards", 0, 1)
+        bed.cards = [self.card(bed, self.truth.file(bed.night))] * self.draw("cards", 0, 1)
         bed.is_called = True
         self.fail(bed, CARDS)
         if bed.is_called:
@@ -203,12 +189,8 @@ class Week(Running):
             if self.chance.random() < 0.2:
                 assert self.morning(bed, bed.cards) <= status, "a second call finds more"
 
-    def card(self, bed: Bed, night: Recording, data: bytes = b"",
-             changed: dict[int, bytes] | None = None) -> Path:
-        data = data or night.piece(changed=changed)
-        self.truth.piece(data, night, list(range(night.records)), changed)
-        name = f"{bed.name}-{night.start:%d%H%M}-{self.chance.randrange(10**6)}.edf"
-        return self.clinic.card(data, name)
+    def card(self, bed: Bed, data: bytes) -> Path:
+        return self.clinic.card(data, f"{bed.name}-{self.chance.randrange(10**6)}.edf")
 
     # What must be so.
 
@@ -281,9 +263,6 @@ class Week(Running):
     def forget(self, code: str) -> None:
         """All of a person goes, and nothing of others."""
         before = self.truth.belongings()
-        if self.chance.random() < 0.3:
-            self.run("forget", code)
-            assert self.truth.belongings() == before, "forget lists, and changes something"
         self.run("forget", code, "--yes")
         after = self.truth.belongings()
         stays = [path for path, (owner, _) in after.items() if owner == code]
