@@ -156,7 +156,7 @@ class Week(Running):
         self.end_writers(bed)
         start = START + timedelta(days=day, hours=22, minutes=chance.randrange(90))
         bed.night = Recording(start, records, 60, f"{chance.choice(self.codes)} X X X", f"N{day}",
-                              (2,), f"{bed.name} {day}")
+                              (4,), f"{bed.name} {day}")
         bed.nights.append(bed.night)
         size = -(-records // chance.choice((2, 3, 4, 6)))
         bed.parts = [list(range(at, min(records, at + size))) for at in range(0, records, size)]
