@@ -30,7 +30,7 @@ def pauses(week: Week, bed: Bed) -> None:
     def begin() -> None:
         it = week.open_writer(bed, f"n{bed.night.start:%d%H%M}.edf{kind}", part,
                               week.draw("count", "right", "right", "open", "all"))
-        week.write(bed, it, week.chance.randrange(1, 1 + len(part)))
+        week.write(bed, it, week.chance.randrange(1, max(2, len(part))))
     bed.steps[nth] = begin
     if week.draw("ends", True, True, False):
         bed.steps.append(partial(week.end_writers, bed))
