@@ -42,6 +42,7 @@ class Truth:
         # What a night that was recoded is made of, in `replaced`; and the code that each got.
         self.made_of: dict[Path, list[Path]] = {}
         self.meant: dict[Path, str] = {}
+        self.mornings: dict[tuple[str, str], int] = {}      # that made it, by a folder's key
         # What came to a recorder, and is in no night, and was not told.
         self.came: dict[str, set[bytes]] = {it: set() for it in clinic.recorders}
 
@@ -110,16 +111,19 @@ class Truth:
         self.made_of[made] = [old, *self.made_of.pop(folder, []), *self.made_of.get(made, [])]
         self.meant |= {it: code for it in self.made_of[made]}
 
+    def key(self, folder: Path) -> tuple[str, str]:
+        """Its recorder and its name, which it has in `replaced`, too."""
+        return folder.relative_to(self.clinic.nights).parts[0], folder.name
+
     def codes(self) -> Iterator[tuple[Path, str, Path]]:
         """Of each file that came, and each export of the archive its code and its folder. What has
-        no code is perhaps its owner's, where a night of theirs and of its evening is there."""
-        def evening(folder: Path) -> tuple[str, str]:
-            return folder.relative_to(self.clinic.nights).parts[0], folder.name[:10]
-        nights = {(*evening(it), self.facts(it)["patient"]) for it in self.folders(False)}
+        no code is perhaps its owner's, where a night of theirs and of its morning is there."""
+        nights = {(self.mornings[self.key(it)], self.facts(it)["patient"])
+                  for it in self.folders(False) if self.key(it) in self.mornings}
         for folder in self.folders():
             for path in self.raw(folder):
                 of = self.known(path)
-                is_there = (*evening(folder), of.owner) in nights
+                is_there = (self.mornings.get(self.key(folder)), of.owner) in nights
                 yield path, of.code or f"{PERHAPS}{of.owner}" * is_there, folder
             yield from ((it, codes_in(it.read_bytes()), folder) for it in self.exports(folder))
 
@@ -142,7 +146,8 @@ class Truth:
 
     def assert_exports(self, before: list[Path]) -> None:
         """Of the nights of a morning: each export has what was recorded, and once."""
-        held = Counter[bytes]()
+        held, nth = Counter[bytes](), len(self.mornings)
+        self.mornings |= {self.key(it): nth for it in self.folders() if it not in before}
         for folder in [it for it in self.folders(False) if it not in before]:
             patient = self.facts(folder)["patient"]
             for path in self.exports(folder):
