@@ -22,7 +22,7 @@ from checks.clinic.recordings import Recording
 from checks.clinic.truth import quoted_away
 
 START = datetime(2026, 11, 2)
-LONGEST = 200       # real seconds of a step
+LONGEST = 600       # real seconds of a step
 FAILED = 70         # the status of what edfclinic itself does not catch
 MARK = "MARK"       # in names of uploaders, which must stand in quotes
 nap = time.sleep
@@ -183,13 +183,12 @@ class Running:
             self.tick()
 
     def end(self, bed: Bed, number: int = signal.SIGTERM) -> None:
-        ending, bed.receiving = bed.receiving, 0
-        if not ending:
+        if not bed.receiving:
             return
-        os.kill(ending, number)
+        os.kill(bed.receiving, number)
         if number == signal.SIGTERM:
             os.write(bed.pipes[3], struct.pack("d", self.clock))
-        status = self.ended(ending)
+        status, bed.receiving = self.ended(bed.receiving), 0
         said = (self.outs / f"{bed.name}.err").read_text()
         self.say(f"receive of {bed.name} ended by {number}:\n{said}")
         if status not in (0, -signal.SIGKILL):
