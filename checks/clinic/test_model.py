@@ -67,8 +67,8 @@ WRONG: dict[str, tuple[list[tuple[str, str, str]], dict[str, Any]]] = {
          "if before and files.exists(old):")],
         {"faults": ["one name"], "damage": "cut", "part": 0, "pause": 150, "cards": 0}),
     "recodes a night, and keeps the code in its files": ([
-        ("recode.py", "it, \"--set-patient\", code]", "it, \"--set-patient\", "
-         "before[\"patient\"]]")],
+        ("recode.py", "words = [\"edfmend\", join(old, it), it, \"--set-patient\", code]",
+         "words = [\"cp\", join(old, it), it]")],
         {"faults": [], "recodes": 2})}
 
 
