@@ -145,8 +145,10 @@ class Truth:
                 f"{path} is of {code}, and lies in a night of {told}"
 
     def assert_exports(self, before: list[Path]) -> None:
-        """Of the nights of a morning: each export has what was recorded, and once."""
-        held, nth = Counter[bytes](), len(self.mornings)
+        """Of the nights of a morning: each export has what was recorded, and once; and each data
+        record that was taken is in one."""
+        held, exported, taken = Counter[bytes](), set[bytes](), list[Path]()
+        nth = len(self.mornings)
         self.mornings |= {self.key(it): nth for it in self.folders() if it not in before}
         for folder in [it for it in self.folders(False) if it not in before]:
             patient = self.facts(folder)["patient"]
@@ -157,4 +159,8 @@ class Truth:
                     assert self.recorded.get(samples) == (patient, start), \
                         f"{path} of {patient} has at {start} {self.recorded.get(samples)}"
                 held.update([samples for _, samples in found if path.name == "night.edf"])
+                exported |= {samples for _, samples in found}
+            taken += folder.glob("taken/*.edf")
+        lost = self.records(taken) - exported
+        assert not lost, f"{len(lost)} data records were taken, and are in no export"
         assert max(held.values(), default=1) == 1, "a data record is in two nights of a morning"

@@ -101,25 +101,24 @@ class Week(Running):
                  f"{told}{', which was taken' * (os.fstat(it.fd).st_nlink == 0)}")
         self.advance(2)
 
-    def end_writer(self, bed: Bed, it: Writer) -> None:
-        self.write(bed, it, len(it.numbers), True)
-        if it.path.suffix == ".part":
-            it.path.rename(it.path.with_suffix(""))
-            self.truth.came[bed.name] |= it.records
-        bed.writers.remove(it)
-        os.close(it.fd)
-
     def end_writers(self, bed: Bed) -> None:
         for it in list(bed.writers):
-            self.end_writer(bed, it)
+            self.write(bed, it, len(it.numbers), True)
+            if it.path.suffix == ".part":
+                it.path.rename(it.path.with_suffix(""))
+                self.truth.came[bed.name] |= it.records
+            self.drop(bed, it)
+
+    def drop(self, bed: Bed, it: Writer) -> None:
+        bed.writers.remove(it)
+        os.close(it.fd)
 
     def end(self, bed: Bed, number: int = signal.SIGTERM) -> None:
         """What was taken out of the inbox and is written to is nobody's to see from now on."""
         super().end(bed, number)
         for it in [it for it in bed.writers if os.fstat(it.fd).st_nlink == 0]:
             self.lose(bed, it.records)
-            bed.writers.remove(it)
-            os.close(it.fd)
+            self.drop(bed, it)
 
     # An evening and its morning.
 
@@ -198,6 +197,7 @@ class Week(Running):
         truth, before = self.truth, self.truth.folders()
         came, given = truth.came[bed.name], truth.records(cards)
         came |= given
+        taken = truth.records([*self.clinic.data.glob(f"{bed.name}/*/taken/*.edf")])
         status, said = self.run("morning", bed.name, *(word for it in cards
                                                        for word in ("--card", it)))
         missing = came - truth.held()
@@ -206,6 +206,11 @@ class Week(Running):
             f"{len(missing)} data records came, are in no night, and all is said to be right"
         assert status or bed.receiving, "receive does not run, and it is not said"
         assert self.faults or not status, "all is right, and it is not said"
+        at = [truth.recorded[it][1] for it in taken]
+        for card in cards:
+            own = [truth.recorded[it][1] for it in truth.known(card).records]
+            assert status or not at or not own or min(at) <= max(own) and min(own) <= max(at), \
+                "a card of another night was given, and nothing said"
         truth.assert_exports(before)
         truth.assert_owners()
         waits = truth.pending().union(*(it.records for it in bed.writers))
