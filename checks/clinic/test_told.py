@@ -108,7 +108,10 @@ def test_a_refused_file_goes_to_its_owner_alone(clinic: Clinic, mend: bool) -> N
     assert str(rest) in clinic.causes()["rest"]
     clinic.done("forget", "S-0118", "--yes")
     assert list(rest.rglob("*.edf")) and clinic.done("verify").endswith(" 0 files changed\n")
+    clinic.done("seen", "r01/2026-11-26-S-0120", "--why", "as on paper, AB")
+    clinic.done("nights", status=1)
     clinic.done("seen", "r01/2026-11-26.rest", "--why", "told the ward, AB")
+    clinic.done("nights")
     assert "rest" not in clinic.causes()
     clinic.done("forget", "S-0119", "--yes")
     assert not rest.exists() and len(clinic.archive()) == 1
