@@ -186,7 +186,7 @@ def test_forget_of_mended_files_and_of_a_recorder_that_the_config_lacks(clinic: 
     clinic.make(clinic.data / "r01/gone", SERVICE, SERVICE, 0o700)      # as a kill leaves it
     clinic.recorders = ("r02",)
     clinic.write_config({})
-    assert clinic.done("nights").startswith("r01/2026-11-26-S-0400")
+    assert clinic.done("nights", status=1).startswith("r01/2026-11-26-S-0400")
     said = clinic.done("forget", "S-0118", "--yes", status=1)
     assert said.count("but are of S-0400") == 1 and said.count("removed") == 1
     clinic.done("forget", "S-0400", "--yes")
