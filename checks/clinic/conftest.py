@@ -58,7 +58,11 @@ def scratch() -> Iterator[Path]:
 
 
 @pytest.fixture
-def clinic(scratch: Path, programs: Path) -> Iterator[Clinic]:
-    made = Clinic(scratch, programs)
+def clinic(request: Any, scratch: Path, programs: Path) -> Iterator[Clinic]:
+    """One of r01, or of the RECORDERS of a module. Each receive that a test begins runs till the
+    test stops it, or ends."""
+    made = Clinic(scratch, programs, recorders=getattr(request.module, "RECORDERS", ("r01",)))
     yield made
+    ended = [it.args for it in made.receiving if it.poll() is not None]
     made.end()
+    assert not ended, "a receive ended by itself"

@@ -3,11 +3,11 @@ nth call that changes the file system.
 
     python3 -I driver.py SOURCE HOW WORDS...
 
-HOW is JSON: `kill` [N, "before" or "behind"]; `fail` [N, NUMBER of the error]; `calls` a file that
-gets a line for each such call. A call of a program counts as one, too. `exchange` [NAME, OTHER]:
-while NAME is opened, and only then, it is the other file. `set` has other values of constants, as
-{"programs.MOST_RUNS": 10}; `clock` is a file with the seconds by which the host's clock is set on.
-`over` [NAME, OTHER]: before NAME is removed or gets another name, OTHER is renamed over it.
+HOW is JSON: `kill` [N, "before" or "behind"]; `calls` a file that gets a line for each such call. A
+call of a program counts as one, too. `exchange` [NAME, OTHER]: while NAME is opened, and only then,
+it is the other file. `over` [NAME, OTHER]: before NAME is removed or gets another name, OTHER is
+renamed over it. `set` has other values of constants, as {"programs.MOST_RUNS": 10}; `clock` is a
+file with the seconds by which the host's clock is set on. `attended`: as where a receive runs.
 """
 import ctypes
 import json
@@ -28,30 +28,23 @@ class Counter:
     """Counts calls, and ends at one of them."""
 
     def __init__(self, how: dict[str, Any]):
-        kill: tuple[int, str] = how.get("kill") or (0, "")
-        fail: tuple[int, int] = how.get("fail") or (0, 0)
-        self.count, self.how, self.kill_at, self.fail_at = 0, how, kill, fail
+        self.count, self.kill_at = 0, tuple(how.get("kill", ()))
         self.lines = os.open(how["calls"], os.O_WRONLY | os.O_CREAT, 0o666) \
             if "calls" in how else None
         self.own = {name: getattr(os, name) for name in CHANGING}
-
-    def kill(self) -> None:
-        os.kill(os.getpid(), signal.SIGKILL)
 
     def around(self, what: str, call: Callable[[], Any]) -> Any:
         self.count += 1
         nth = self.count
         if self.lines is not None:
             self.own["write"](self.lines, f"{nth} {what}\n".encode())
-        if (nth, "before") == tuple(self.kill_at):
-            self.kill()
-        if nth == self.fail_at[0]:
-            raise OSError(self.fail_at[1], os.strerror(self.fail_at[1]))
+        if (nth, "before") == self.kill_at:
+            os.kill(os.getpid(), signal.SIGKILL)
         try:
             return call()
         finally:
-            if (nth, "behind") == tuple(self.kill_at):
-                self.kill()
+            if (nth, "behind") == self.kill_at:
+                os.kill(os.getpid(), signal.SIGKILL)
 
     def watch(self) -> None:
         for name in CHANGING:
@@ -81,32 +74,33 @@ def shift(path: str) -> None:
     setattr(sys.modules["edfclinic.text"], "datetime", Shifted)
 
 
+def around(calls: tuple[str, ...], name: str, before: Callable[[int], None],
+           behind: Callable[[int], None] = lambda _: None) -> None:
+    """Does that with the folder where one of these calls of a name of it is made."""
+    for call in calls:
+        def called(path: Any, *words: Any, own: Any = getattr(os, call), **options: Any) -> Any:
+            folder = options.get("src_dir_fd", options.get("dir_fd"))
+            if path != name or folder is None:
+                return own(path, *words, **options)
+            before(folder)
+            try:
+                return own(path, *words, **options)
+            finally:
+                behind(folder)
+        setattr(os, call, called)
+
+
 def exchange(name: str, other: str) -> None:
-    own, libc = os.open, ctypes.CDLL(None)
-
     def swap(folder: int) -> None:
-        libc.renameat2(folder, name.encode(), folder, other.encode(), RENAME_EXCHANGE)
-
-    def opened(path: Any, *words: Any, **options: Any) -> int:
-        if path != name:
-            return own(path, *words, **options)
-        swap(options["dir_fd"])
-        try:
-            return own(path, *words, **options)
-        finally:
-            swap(options["dir_fd"])
-    setattr(os, "open", opened)
+        ctypes.CDLL(None).renameat2(folder, name.encode(), folder, other.encode(), RENAME_EXCHANGE)
+    around(("open",), name, swap, swap)
 
 
 def rename_over(name: str, other: str) -> None:
-    rename = os.rename
-    for call in ("rename", "unlink"):
-        def called(path: Any, *words: Any, own: Any = getattr(os, call), **options: Any) -> Any:
-            folder = options.get("src_dir_fd", options.get("dir_fd"))
-            if path == name and folder is not None and other in os.listdir(folder):
-                rename(other, name, src_dir_fd=folder, dst_dir_fd=folder)
-            return own(path, *words, **options)
-        setattr(os, call, called)
+    def over(folder: int, rename: Any = os.rename) -> None:
+        if other in os.listdir(folder):
+            rename(other, name, src_dir_fd=folder, dst_dir_fd=folder)
+    around(("rename", "unlink"), name, over)
 
 
 def main() -> None:
@@ -116,7 +110,9 @@ def main() -> None:
     sys.dont_write_bytecode = True
     from edfclinic import __main__, morning, receive   # type: ignore[import]
     morning.RUNS = 0.3
-    receive.TICK, receive.RESTART, receive.AGAIN = how.get("tick", 0.05), 0.2, 0.3
+    receive.TICK, receive.RESTART, receive.AGAIN = 0.05, 0.2, 0.3
+    if how.get("attended"):
+        setattr(morning, "is_receiving", lambda _: True)
     for name, value in how.get("set", {}).items():
         module, _, key = name.partition(".")
         setattr(sys.modules[f"edfclinic.{module}"], key, value)
@@ -126,7 +122,7 @@ def main() -> None:
         exchange(*how["exchange"])
     if "over" in how:
         rename_over(*how["over"])
-    if how.keys() & {"kill", "fail", "calls"}:
+    if how.keys() & {"kill", "calls"}:
         Counter(how).watch()
     sys.exit(__main__.main())
 

@@ -32,16 +32,13 @@ def came(night: Path) -> set[Whose]:
 
 
 def assert_all_is_there(nights: list[Path], *truths: tuple[str, dict[int, bytes]]) -> None:
-    """Each data record that the nights took is in an export, and in one night; what is exported
-    was taken, and was recorded: `truths` are pairs of a patient's code and the samples by start."""
-    each = [exported(night) for night in nights]
-    taken = set().union(*(came(night) for night in nights))
-    found = Counter(it for one in each for it in one)
-    assert taken == set(found), "an accepted data record is in no export, or another one is"
-    assert max(found.values(), default=1) == 1, "a data record is in two nights"
-    recorded = {(code, start, samples) for code, truth in truths
-                for start, samples in truth.items()}
-    assert set(found) <= recorded, "an export has what nobody recorded"
+    """Each data record that the nights took is in an export, and in one night; that is all that was
+    recorded, and no more: `truths` are pairs of a patient's code and the samples by start."""
+    found = Counter(it for night in nights for it in exported(night))
+    assert set().union(*map(came, nights)) == set(found), \
+        "an accepted data record is in no export, or another one is"
+    assert set(found.values()) == {1}, "a data record is in two nights, or none is in any"
+    assert set(found) == {(code, *it) for code, truth in truths for it in truth.items()}
 
 
 def starts(night: Path) -> list[int]:

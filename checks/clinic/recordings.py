@@ -9,7 +9,6 @@ from typing import Any
 
 from checks.lib.edf import Header, Signal, annotations_signal, data_record, keeping, tal
 
-ANNOTATION_SAMPLES = 20
 EPOCH = datetime(1970, 1, 1)
 Held = tuple[int, bytes]        # a data record: its start, its samples
 
@@ -24,7 +23,7 @@ class Recording:
     investigation: str = "N1"
     samples: tuple[int, ...] = (4, 2)
     seed: str = "r01"
-    startdate: str = ""         # as the fields have it, where it is not the day of `start`
+    texts: int = 20             # samples of the annotations signal
 
     def at(self, nth: int) -> datetime:
         return self.start + timedelta(seconds=self.seconds * nth)
@@ -43,12 +42,11 @@ class Recording:
 
     def header(self, first: int, count: str, reserved: str = "EDF+C") -> Header:
         at = self.at(first)
-        day = (self.startdate or at.strftime("%d-%b-%Y")).upper()
-        short = datetime.strptime(day.title(), "%d-%b-%Y").strftime("%d.%m.%y")
+        day = f"{at:%d-%b-%Y}".upper()
+        recording = f"Startdate {day} {self.investigation} T3 REC5"
         signals = [Signal(f"EEG {n}", samples=str(size)) for n, size in enumerate(self.samples)]
-        return Header((*signals, annotations_signal(ANNOTATION_SAMPLES)), short,
-                      at.strftime("%H.%M.%S"), self.patient,
-                      f"Startdate {day} {self.investigation} T3 REC5", reserved, count,
+        return Header((*signals, annotations_signal(self.texts)), f"{at:%d.%m.%y}",
+                      f"{at:%H.%M.%S}", self.patient, recording, reserved, count,
                       str(self.seconds))
 
     def piece(self, first: int = 0, end: int = 0, count: str = "",

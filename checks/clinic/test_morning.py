@@ -13,48 +13,33 @@ from checks.clinic.recordings import Recording
 
 NIGHT = Recording(records=960)
 NAME = "2026-11-26-S-0118"
-
-
-def put_away(clinic: Clinic, files: dict[str, bytes], *cards: bytes, status: int = 0) -> list[Path]:
-    """The nights after these files, and a morning with these cards."""
-    clinic.night_took(files)
-    words = [word for nth, card in enumerate(cards)
-             for word in ("--card", clinic.card(card, f"card{nth}.edf"))]
-    clinic.done("morning", "r01", *words, status=status)
-    return clinic.archive()
+FILES = {name: data for name, data in NIGHT.pieces().items() if name != "part05.edf"}
 
 
 def test_a_night_and_its_card(clinic: Clinic) -> None:
-    files = NIGHT.pieces()
-    del files["part05.edf"]
-    clinic.night_took(files)
-    said = clinic.done("morning", "r01", "--card", clinic.card(NIGHT.piece(), "card0.edf"))
+    clinic.night_took(FILES)
+    said = clinic.morning(NIGHT.piece())
     assert said.splitlines()[1:] == [
         "  card \"card0.edf\", here card-1.edf: all of it is put away; "
         "it may be erased if the paper agrees",
         "  nothing that came before morning was called is missing: "
         "compare begin, end and gaps with the paper"]
-    nights = clinic.archive()
-    assert [it.name for it in nights] == [NAME]
-    assert {it.name for it in nights[0].iterdir()} == ALWAYS | {
+    night, = clinic.archive()
+    assert night.name == NAME and {it.name for it in night.iterdir()} == ALWAYS | {
         "taken", "refused", "card-1.edf", "answers.log"}
-    assert facts(nights[0]) == {
+    assert facts(night) == {
         "recorder": "r01", "night": NAME, "patient": "S-0118", "investigation": "N1",
         "first": "2026-11-26T22:00:00", "last": "2026-11-27T06:00:00", "gap_minutes": 0.0,
         "card": [{"name": "card0.edf", "answer": "accepted new=80 known=880"}],
         "refused": [], "differs": [], "look": [], "same_night": []}
-    assert_all_is_there(nights, ("S-0118", NIGHT.truth()))
-    assert sorted(it.read_bytes() for it in (nights[0] / "taken").iterdir()) \
-        == sorted(files.values())
+    assert_all_is_there([night], ("S-0118", NIGHT.truth()))
+    assert sorted(it.read_bytes() for it in (night / "taken").iterdir()) == sorted(FILES.values())
     assert not (clinic.data / "r01/morning").exists()
-    modes = {oct(it.stat().st_mode & 0o7777) for it in nights[0].rglob("*")}
-    assert modes == {"0o640", "0o2750"}
+    assert {oct(it.stat().st_mode & 0o7777) for it in night.rglob("*")} == {"0o640", "0o2750"}
 
 
 def test_without_a_card_the_gap_is_told(clinic: Clinic) -> None:
-    files = NIGHT.pieces()
-    del files["part05.edf"]
-    night = put_away(clinic, files)[0]
+    night, = clinic.put_away(FILES)
     assert (facts(night)["gap_minutes"], facts(night)["look"]) == (40.0, [])
     view = (night / "view.edf").read_bytes()
     assert view[192:197] == b"EDF+C"
@@ -63,37 +48,29 @@ def test_without_a_card_the_gap_is_told(clinic: Clinic) -> None:
 
 def test_a_card_with_a_flipped_bit(clinic: Clinic) -> None:
     """The card comes first then; the piece that differs is told, and nothing of it is lost."""
-    files = NIGHT.pieces()
-    del files["part05.edf"]
     flipped = bytearray(NIGHT.samples_of(100))
     flipped[0] ^= 1
-    nights = put_away(clinic, files, NIGHT.piece(changed={100: bytes(flipped)}), status=1)
-    told = facts(nights[0])
+    card = NIGHT.piece(changed={100: bytes(flipped)})
+    night, = clinic.put_away(FILES, card, status=1)
+    told = facts(night)
     assert [it["name"] for it in told["differs"]] == ["part02.edf"]
     assert told["differs"][0]["answer"].startswith("refused E31 Differs start=2026-11-26T22:50:00")
     assert (told["differs"][0]["minutes"], told["differs"][0]["missing"]) == (40.0, 0.0)
     assert told["card"][0]["answer"] == "accepted new=960 known=0"
-    said = clinic.done("morning", "r01", "--card", clinic.folder / "card0.edf", status=1)
+    said = clinic.morning(card, status=1)
     assert "look: 1 files differ" in said and "keep it till" in said, "it is said again"
-    wrong = {NIGHT.instant(100): bytes(flipped)}
-    assert_all_is_there_but_copies(nights, NIGHT.truth(), wrong)
-    text = (nights[0] / "report.txt").read_text()
+    found = set(exported(night))        # of two exports: each data record that came is in one
+    recorded = [*NIGHT.truth().items(), (NIGHT.instant(100), bytes(flipped))]
+    assert found == came(night) == {("S-0118", *it) for it in recorded}
+    text = (night / "report.txt").read_text()
     assert "2026-11-26T22:50:00 to 2026-11-26T22:50:30: 1 data records differ" in text
     assert "from 2026-11-26T22:00:00 for 28800 seconds: 960 data records, no gap" in text
-
-
-def assert_all_is_there_but_copies(nights: list[Path], truth: dict[int, bytes],
-                                   wrong: dict[int, bytes]) -> None:
-    """Of a night with two exports: each data record that came is in one of them."""
-    found = set(exported(nights[0]))
-    assert found == came(nights[0])
-    assert found == {("S-0118", *it) for it in [*truth.items(), *wrong.items()]}
 
 
 def test_a_clock_that_is_set_back_by_two_seconds(clinic: Clinic) -> None:
     files = dict(list(NIGHT.pieces().items())[:4])
     back = NIGHT.later(start=datetime(2026, 11, 27, 0, 39, 58), records=80, seed="back")
-    night = put_away(clinic, {**files, "z.edf": back.piece()}, status=1)[0]
+    night, = clinic.put_away({**files, "z.edf": back.piece()}, status=1)
     refused = facts(night)["refused"]
     assert [(it["name"], it["answer"].split()[1], it["minutes"], it["missing"], it["resent"])
             for it in refused] == [("z.edf", "E30", 40.0, 39.97, False)]
@@ -103,17 +80,17 @@ def test_a_clock_that_is_set_back_by_two_seconds(clinic: Clinic) -> None:
 def test_a_clock_that_is_set_back_by_an_hour(clinic: Clinic) -> None:
     files = dict(list(NIGHT.pieces().items())[:6])
     again = NIGHT.later(start=datetime(2026, 11, 27, 1, 0), records=80, seed="again")
-    night = put_away(clinic, {**files, "z.edf": again.piece()}, status=1)[0]
-    assert facts(night)["refused"][0]["answer"].split()[1] == "E31"
-    assert facts(night)["refused"][0]["missing"] == 0.0
+    night, = clinic.put_away({**files, "z.edf": again.piece()}, status=1)
+    assert [(it["answer"].split()[1], it["missing"]) for it in facts(night)["refused"]] == [
+        ("E31", 0.0)]
     assert facts(night)["look"][0].startswith("1 refused files contradict the night: ")
-    assert len(list((night / "refused").iterdir())) == 1
+    assert [it.read_bytes() for it in (night / "refused").iterdir()] == [again.piece()]
 
 
 def test_the_evenings_date_after_midnight_is_a_night_of_its_own(clinic: Clinic) -> None:
     evening, late = NIGHT.later(records=240), \
         NIGHT.later(start=datetime(2026, 11, 26, 0, 0), records=240, seed="late")
-    nights = put_away(clinic, {"a.edf": evening.piece(), "b.edf": late.piece()}, status=1)
+    nights = clinic.put_away({"a.edf": evening.piece(), "b.edf": late.piece()}, status=1)
     assert [it.name for it in nights] == ["2026-11-25-S-0118", NAME]
     assert [len(starts(it)) for it in nights] == [240, 240]
     assert_all_is_there(nights, ("S-0118", {**evening.truth(), **late.truth()}))
@@ -125,7 +102,7 @@ def test_the_evenings_date_after_midnight_is_a_night_of_its_own(clinic: Clinic) 
 
 def test_a_nap_and_a_night_of_one_day_have_two_names(clinic: Clinic) -> None:
     nap = NIGHT.later(start=datetime(2026, 11, 26, 13, 0), records=240)
-    nights = put_away(clinic, {"nap.edf": nap.piece(), "n.edf": NIGHT.piece()}, status=1)
+    nights = clinic.put_away({"nap.edf": nap.piece(), "n.edf": NIGHT.piece()}, status=1)
     assert [(it.name, len(starts(it))) for it in nights] == [(NAME, 240), (f"{NAME}.2", 960)]
     assert_all_is_there(nights, ("S-0118", {**nap.truth(), **NIGHT.truth()}))
 
@@ -136,7 +113,7 @@ def test_a_gap_of_half_an_hour_with_noon_in_it_parts_two_nights(clinic: Clinic) 
     second = NIGHT.later(start=datetime(2026, 11, 26, 12, 20), records=120)
     third = NIGHT.later(start=datetime(2026, 11, 26, 17, 20), records=120)
     files = {f"{nth}.edf": it.piece() for nth, it in enumerate((first, second, third))}
-    nights = put_away(clinic, files, status=1)
+    nights = clinic.put_away(files, status=1)
     assert [(it.name, len(starts(it)), facts(it)["gap_minutes"]) for it in nights] == [
         ("2026-11-25-S-0118", 240, 0.0), (NAME, 240, 240.0)]
 
@@ -144,7 +121,7 @@ def test_a_gap_of_half_an_hour_with_noon_in_it_parts_two_nights(clinic: Clinic) 
 def test_two_nights_of_code_x_are_not_joined(clinic: Clinic) -> None:
     people = [NIGHT.later(patient="X X X X", investigation="X", seed=str(day),
                           start=datetime(2026, 11, day, 22, 0)) for day in (26, 27)]
-    nights = put_away(clinic, {f"{it.seed}.edf": it.piece() for it in people},
+    nights = clinic.put_away({f"{it.seed}.edf": it.piece() for it in people},
                       people[1].piece(), status=1)
     assert [it.name for it in nights] == ["2026-11-26-X", "2026-11-27-X"]
     assert_all_is_there(nights, ("X", {**people[0].truth(), **people[1].truth()}))
@@ -153,7 +130,7 @@ def test_two_nights_of_code_x_are_not_joined(clinic: Clinic) -> None:
 def test_two_patients_of_one_morning_and_a_code_with_odd_letters(clinic: Clinic) -> None:
     other = NIGHT.later(patient="../S'7\\e M X X", investigation="N2",
                         start=datetime(2026, 11, 26, 23, 0), records=80)
-    nights = put_away(clinic, {"a.edf": NIGHT.piece(), "b.edf": other.piece()}, status=1)
+    nights = clinic.put_away({"a.edf": NIGHT.piece(), "b.edf": other.piece()}, status=1)
     assert [it.name for it in nights] == [NAME, "2026-11-26-___S_7_e"]
     assert facts(nights[1])["patient"] == r"../S'7\x5ce"
     assert [len(list((it / "taken").iterdir())) for it in nights] == [1, 1]
@@ -161,11 +138,11 @@ def test_two_patients_of_one_morning_and_a_code_with_odd_letters(clinic: Clinic)
 
 
 def test_a_card_twice_and_a_late_file(clinic: Clinic) -> None:
-    put_away(clinic, {"a.edf": NIGHT.piece(0, 480)}, NIGHT.piece())
-    said = clinic.done("morning", "r01", "--card", clinic.folder / "card0.edf")
+    clinic.put_away({"a.edf": NIGHT.piece(0, 480)}, NIGHT.piece())
+    said = clinic.morning(NIGHT.piece())
     assert "put away before" in said and "nothing was accepted" in said
     assert [it.name for it in clinic.archive()] == [NAME]
-    nights = put_away(clinic, {"late.edf": NIGHT.piece(480, 560)}, NIGHT.piece())
+    nights = clinic.put_away({"late.edf": NIGHT.piece(480, 560)}, NIGHT.piece())
     assert [it.name for it in nights] == [NAME, f"{NAME}.2"]
     report = (nights[1] / "report.txt").read_text().splitlines()
     assert report[1].startswith(f"{NAME} is there too") and report[2] == "no card is in it"
@@ -175,82 +152,57 @@ def test_a_card_twice_and_a_late_file(clinic: Clinic) -> None:
     assert len(starts(nights[1])) == 80, "a card that a night has was joined again"
 
 
-def test_two_cards_of_which_one_is_no_edf(clinic: Clinic) -> None:
-    night = put_away(clinic, {"a.edf": NIGHT.piece(0, 480)}, NIGHT.piece(480), b"no card",
-                     status=1)[0]
-    assert [it["answer"] for it in facts(night)["card"]] == [
-        "accepted new=480 known=0", "refused E1 Cut"]
-    assert (night / "card-2.edf").read_bytes() == b"no card"
-    assert [it.split(":")[0] for it in facts(night)["look"]] == ["a card was refused E1 Cut"]
-
-
-def test_a_card_alone_and_a_card_that_is_none(clinic: Clinic) -> None:
-    assert "nothing was accepted" in clinic.done("morning", "r01")
-    said = clinic.done("morning", "r01", "--card", clinic.card(b"no card"), status=1)
-    assert 'card "card.edf" was refused E1 Cut' in said and clinic.archive() == []
-    assert not (clinic.data / "r01/morning").exists()
-    clinic.done("morning", "r01", "--card", clinic.card(NIGHT.piece()))
-    assert [it.name for it in clinic.archive()] == [NAME]
-    assert_all_is_there(clinic.archive(), ("S-0118", NIGHT.truth()))
-
-
 def test_refused_files_stay_for_the_night_that_they_are_of(clinic: Clinic) -> None:
     """All pieces are E8; in the morning a card that is none changes nothing; then the right one."""
+    assert "nothing was accepted" in clinic.morning()
     wrong = NIGHT.piece(0, 80)
     wrong = wrong[:168] + b"25.11.26" + wrong[176:]
     clinic.night_took({"a.edf": wrong})
-    clinic.done("morning", "r01", "--card", clinic.card(b"no card"), status=1)
+    said = clinic.morning(status=1)
+    assert "look: 1 files were refused, and are in no night: file \"a.edf\"" in said
+    said = clinic.morning(b"no card", status=1)
+    assert 'card "card0.edf" was refused E1 Cut' in said and clinic.archive() == []
+    assert not (clinic.data / "r01/morning").exists()
     assert [line[2] for line in clinic.log()] == ["a.edf"]
-    clinic.done("morning", "r01", "--card", clinic.card(NIGHT.piece()), status=1)
-    told = facts(clinic.archive()[0])
-    assert [(it["name"], it["minutes"], it["missing"]) for it in told["refused"]] == [
+    clinic.morning(NIGHT.piece(), status=1)
+    night, = clinic.archive()
+    assert [(it["name"], it["minutes"], it["missing"]) for it in facts(night)["refused"]] == [
         ("a.edf", None, None)]
-    assert (clinic.archive()[0] / "refused/000001.edf").read_bytes() == wrong
+    assert (night / "refused/000001.edf").read_bytes() == wrong
+    assert_all_is_there([night], ("S-0118", NIGHT.truth()))
 
 
 def test_a_name_that_came_again_is_resent(clinic: Clinic) -> None:
-    child = clinic.receive()
-    clinic.put("a.edf", NIGHT.piece(0, 80)[:-5])
-    clinic.until_taken()
-    clinic.put("a.edf", NIGHT.piece(0, 80))
-    clinic.put("b.edf", NIGHT.piece(80, 960))
-    clinic.until_taken()
-    clinic.stop(child)
-    clinic.done("morning", "r01")
+    clinic.night_took({"a.edf": NIGHT.piece(0, 80)[:-5]},
+                      {"a.edf": NIGHT.piece(0, 80), "b.edf": NIGHT.piece(80, 960)})
+    clinic.morning()
     refused = facts(clinic.archive()[0])["refused"]
     assert [(it["name"], it["resent"], it["minutes"]) for it in refused] == [("a.edf", True, None)]
 
 
 def test_what_waits_in_the_inbox_is_of_the_next_night(clinic: Clinic) -> None:
-    child = clinic.receive()
+    clinic.receive()
     clinic.put("a.edf", NIGHT.piece(0, 480))
     clinic.until_taken()
-    clinic.put("b.edf.part", NIGHT.piece(480))
-    assert '"b.edf.part"' in clinic.done("morning", "r01", status=1)
-    (clinic.inboxes / "r01/b.edf.part").rename(clinic.inboxes / "r01/b.edf")
+    part = clinic.put("b.edf.part", NIGHT.piece(480))
+    assert '"b.edf.part"' in clinic.morning(status=1)
+    part.rename(part.with_name("b.edf"))
     clinic.until_taken()
-    clinic.stop(child)
-    clinic.done("morning", "r01")
+    clinic.morning()
     assert [len(starts(it)) for it in clinic.archive()] == [480, 480]
     assert facts(clinic.archive()[1])["look"] == []
 
 
 @pytest.mark.parametrize("command, name, why", [
     ("fill", "view.edf", "exit 2"), ("picture", "night.svg", "echo x refused E41 >&2; exit 3")])
-def test_an_edfruns_that_fails_puts_the_night_away_too(clinic: Clinic, programs: Path, command: str,
-                                                       name: str, why: str) -> None:
+def test_an_edfruns_that_fails_puts_the_night_away_too(clinic: Clinic, command: str, name: str,
+                                                       why: str) -> None:
     """An older one, or one for whom memory ran out: there is no such file, and it is told."""
-    wrong = clinic.folder / "older"
-    wrong.mkdir()
-    for path in programs.iterdir():
-        (wrong / path.name).write_bytes(path.read_bytes())
-        (wrong / path.name).chmod(0o755)
-    (wrong / "edfruns").write_text(f'#!/bin/sh\nif [ "$1" = {command} ]; then {why}; fi\n'
-                                   f'exec {programs}/edfruns "$@"\n')
-    clinic.programs = wrong
-    night = put_away(clinic, {"a.edf": NIGHT.piece()}, status=1)[0]
+    clinic.wrap("edfruns", f'if [ "$1" = {command} ]; then {why}; fi')
+    night, = clinic.put_away({"a.edf": NIGHT.piece()}, status=1)
     assert facts(night)["look"][0].startswith(f"there is no {name}: ")
     assert not (night / name).exists()
+    assert_all_is_there([night], ("S-0118", NIGHT.truth()))
 
 
 @pytest.mark.parametrize("words", [["morning", "r09"], ["morning"], ["nights", "--config", "x"],
@@ -266,11 +218,11 @@ def test_a_file_that_comes_beside_a_bad_card_has_its_morning(clinic: Clinic) -> 
     clinic.night_took({"bad.edf": b"no EDF"})
     (clinic.data / "r01/tonight").rename(clinic.data / "r01/morning")
     clinic.night_took({"a.edf": NIGHT.piece(), "worse.edf": b"neither"})
-    clinic.done("morning", "r01", "--card", clinic.card(b"no card"), status=1)
+    clinic.morning(b"no card", status=1)
     assert [line[1:3] for line in clinic.log()] == [
         ["000001.edf", "bad.edf"], ["000002.edf", "a.edf"], ["000003.edf", "worse.edf"]]
-    clinic.done("morning", "r01", status=1)
-    night = clinic.archive()[0]
+    clinic.morning(status=1)
+    night, = clinic.archive()
     assert {it.name: it.read_bytes() for it in (night / "refused").iterdir()} == {
         "000001.edf": b"no EDF", "000003.edf": b"neither"}
     assert_all_is_there([night], ("S-0118", NIGHT.truth()))
@@ -282,6 +234,8 @@ def test_it_waits_for_another_that_has_the_nights(clinic: Clinic) -> None:
         os.chown(held.fileno(), SERVICE, SERVICE)
         fcntl.flock(held, fcntl.LOCK_EX)
         child = clinic.started("morning", "r01")
-        time.sleep(4)
+        fds = Path(f"/proc/{child.pid}/fd")
+        clinic.until(lambda: "nights.lock" in [it.resolve().name for it in fds.iterdir()], "a try")
+        time.sleep(1)
         assert child.poll() is None
     assert child.wait(60) == 1 and len(clinic.archive()) == 1

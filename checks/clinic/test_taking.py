@@ -10,208 +10,177 @@ from checks.clinic.recordings import Recording
 NIGHT = Recording(records=40)
 
 
-def test_accepted_files_are_kept_as_they_came_and_leave_the_inbox(clinic: Clinic) -> None:
-    files = {"b.edf": NIGHT.piece(20, 40), "a.edf": NIGHT.piece(0, 20)}
-    clinic.night_took(files)
-    log = clinic.log()
-    assert sorted((line[2], line[3]) for line in log) == [
-        ("a.edf", "accepted new=20 known=0"), ("b.edf", "accepted new=20 known=0")]
-    taken = clinic.data / "r01/tonight/taken"
-    assert {line[2]: (taken / line[1]).read_bytes() for line in log} == files
-    assert [oct(it.stat().st_mode & 0o777) for it in taken.iterdir()] == ["0o640"] * 2
-
-
 def test_what_clients_still_write_is_not_touched(clinic: Clinic) -> None:
     names = [".hidden.edf", "a.edf.part", "b.edf.filepart", "c.tmp", "d.crdownload", "E.PART"]
-    child = clinic.receive()
     for name in names:
         clinic.put(name, NIGHT.piece())
-    clinic.put("z.edf", NIGHT.piece())
-    clinic.until(lambda: clinic.told().get("accepted") == 1, "z.edf")
-    time.sleep(0.5)
+    clinic.receive()
+    for nth in (1, 2):      # what comes later is taken later
+        clinic.put(f"{nth}.edf", NIGHT.piece(nth, nth + 1))
+        clinic.until_told(accepted=nth, waiting_count=0, left_count=0)
     assert sorted(os.listdir(clinic.inboxes / "r01")) == sorted(names)
-    assert clinic.told()["waiting_count"] == clinic.told()["left_count"] == 0
-    clinic.stop(child)
-
-
-def test_a_file_that_grows_is_taken_once_it_is_whole(clinic: Clinic) -> None:
-    clinic.write_config({}, still="2 s")
-    data, child = NIGHT.piece(), clinic.receive()
-    path = clinic.put("slow.edf", data[:2_000])
-    for at in range(2_000, len(data), 400):
-        time.sleep(0.1)
-        with open(os.open(path, os.O_WRONLY | os.O_APPEND), "wb") as file:
-            file.write(data[at:at + 400])
-    clinic.until_taken()
-    assert [line[3] for line in clinic.log()] == ["accepted new=40 known=0"]
-    clinic.stop(child)
 
 
 def test_without_a_count_or_with_a_hole_it_waits_for_unclosed(clinic: Clinic) -> None:
-    clinic.write_config({}, unclosed="8 s")
-    child = clinic.receive()
     clinic.put("open.edf", NIGHT.piece(0, 20, count="-1"))
     os.truncate(clinic.put("hole.edf", b""), 1 << 20)
     clinic.put("whole.edf", NIGHT.piece(20, 40))
-    clinic.until(lambda: clinic.inbox() == ["hole.edf", "open.edf"], "whole.edf", 7)
-    clinic.until_taken()
-    names = [line[2] for line in clinic.log()]
-    assert names[0] == "whole.edf" and sorted(names[1:]) == ["hole.edf", "open.edf"]
-    clinic.stop(child)
+    for unclosed, names in (("1 h", ["hole.edf", "open.edf"]), ("1 s", [])):
+        clinic.write_config({}, unclosed=unclosed)
+        clinic.receive()
+        clinic.until(lambda: clinic.inbox() == names, f"{names} are left")
+        clinic.stop()
+    answers = {line[2]: line[3] for line in clinic.log()}
+    assert list(answers)[0] == "whole.edf" and answers["open.edf"].startswith("accepted new=20")
+    assert answers["hole.edf"].startswith("refused ")
 
 
 def test_a_refused_file_waits_till_it_changes_and_then_is_refused_for_good(clinic: Clinic) -> None:
-    clinic.write_config({}, refuse="2 s")
-    child = clinic.receive()
-    clinic.put("cut.edf", NIGHT.piece()[:-5])
+    cut = NIGHT.piece()[:-5]
+    clinic.write_config({}, refuse="1 h")
+    clinic.receive()
+    clinic.put("cut.edf", cut)
     clinic.put("junk.edf", b"no EDF")
-    clinic.until(lambda: clinic.told().get("waiting_count") == 2, "two that wait")
-    answers = {it["name"]: it["answer"] for it in clinic.told()["waiting"]}
+    answers = {it["name"]: it["answer"] for it in clinic.until_told(waiting_count=2)["waiting"]}
     assert answers == {"cut.edf": "refused E21 CutRecord record=40", "junk.edf": "refused E1 Cut"}
     clinic.put("cut.edf", NIGHT.piece())
+    clinic.until(lambda: clinic.inbox() == ["junk.edf"], "what it became is taken")
+    clinic.stop()
+    clinic.write_config({}, refuse="1 s")
+    clinic.receive()
     clinic.until_taken()
-    clinic.until(lambda: clinic.told()["refused_count"] == 1, "one is refused")
-    told = clinic.told()
+    told = clinic.until_told(refused_count=1)
     assert (told["accepted"], told["refused"], told["waiting"]) == (
         1, [{"name": "junk.edf", "answer": "refused E1 Cut"}], [])
     kept = list((clinic.data / "r01/tonight/refused").iterdir())
     assert [it.read_bytes() for it in kept] == [b"no EDF"]
-    assert clinic.status()["causes"][0]["cause"] == "refused"
     clinic.put("junk.edf", NIGHT.piece())       # a name says nothing of contents
-    clinic.until(lambda: clinic.told()["accepted"] == 2, "another file of that name")
-    assert [it["cause"] for it in clinic.status()["causes"]] == ["refused"]
-    clinic.stop(child)
-    log = [line[2:] for line in clinic.log()]
-    sums = [hashlib.sha256(it).hexdigest() for it in (NIGHT.piece()[:-5], b"no EDF")]
-    assert [line for line in log if line[1].startswith("refused")] in [[
-        ["cut.edf", "refused E21 CutRecord record=40", str(len(NIGHT.piece()) - 5), sums[0]],
-        ["junk.edf", "refused E1 Cut", "6", sums[1]]][::way] for way in (1, -1)]
+    clinic.until_told(accepted=2)
+    assert list(clinic.causes()) == ["refused"]
+    assert sorted(line[2:] for line in clinic.log() if line[3].startswith("refused")) == [
+        [name, answers[name], str(len(data)), hashlib.sha256(data).hexdigest()]
+        for name, data in (("cut.edf", cut), ("junk.edf", b"no EDF"))]
 
 
 def test_what_is_refused_and_waits_when_the_morning_comes_leaves_the_inbox(clinic: Clinic) -> None:
     clinic.write_config({}, refuse="20 s")
-    child, cut = clinic.receive(), NIGHT.piece(20, 40)[:-5]
+    clinic.receive()
+    cut = NIGHT.piece(20, 40)[:-5]
     clinic.put("a.edf", NIGHT.piece(0, 20))
     clinic.put("cut.edf", cut)
-    clinic.until(lambda: len(clinic.log()) == 2, "two answers")
-    clinic.done("morning", "r01", status=1, alone=True)
+    clinic.until_answered(2)
+    clinic.morning(status=1)
     assert clinic.inbox() == ["cut.edf"]
     clinic.until_taken()
-    clinic.until(lambda: clinic.told().get("waiting_count") == 0, "nothing waits")
+    clinic.until_told(waiting_count=0)
     assert clinic.log() == []       # it was told in the night before, which has it
     assert [it.read_bytes() for it in (clinic.archive()[0] / "refused").iterdir()] == [cut]
     clinic.put("b.edf", NIGHT.later(start=NIGHT.at(2_880)).piece())
     clinic.until_taken()
-    clinic.done("morning", "r01", alone=True)
-    clinic.stop(child)
+    clinic.morning()
 
 
 def test_a_file_that_may_not_be_read_is_told_as_long_as_it_lies_there(clinic: Clinic) -> None:
     clinic.write_config({}, still="1 s")
-    child = clinic.receive()
+    clinic.receive()
     path = clinic.put("a.edf", NIGHT.piece())
     path.chmod(0o600)
-    clinic.until(lambda: clinic.told().get("left_count"), "it is told")
-    left = [{"name": "a.edf", "answer": "can't be read: no permission"}]
+    clinic.until_told(left_count=1)
     for _ in range(60):
-        assert clinic.told()["left"] == left
+        assert clinic.told()["left"] == [
+            {"name": "a.edf", "answer": "can't be read: no permission"}]
         time.sleep(0.05)
     path.chmod(0o640)
     clinic.until_taken()
-    clinic.stop(child)
 
 
 def test_a_file_that_fits_into_no_night_is_left(clinic: Clinic) -> None:
     clinic.write_config({}, largest_night=f"{len(NIGHT.piece())} B")
-    child = clinic.receive()
+    clinic.receive()
     clinic.put("large.edf", NIGHT.piece() + b"x")
-    clinic.until(lambda: clinic.told().get("left_count"), "it is told")
-    assert clinic.told()["left"][0]["answer"].endswith(" bytes, more than largest_night")
-    clinic.stop(child)
+    left, = clinic.until_told(left_count=1)["left"]
+    assert left["answer"].endswith(" bytes, more than largest_night")
 
 
 def test_a_larger_file_is_left_and_a_full_night_takes_no_more(clinic: Clinic) -> None:
     size = len(NIGHT.piece())
     clinic.write_config({}, largest_file=f"{size} B", largest_night=f"{2 * size} B")
-    child = clinic.receive()
+    clinic.receive()
     clinic.put("large.edf", NIGHT.piece() + b"x")
-    for nth in (1, 2, 3):
-        clinic.put(f"{nth}.edf", NIGHT.later(seed=str(nth), investigation=f"N{nth}").piece())
-        time.sleep(0.4)
-    clinic.until(lambda: clinic.told().get("full"), "full")
-    told = clinic.told()
+    clinic.put("1.edf", NIGHT.piece())
+    clinic.until_told(accepted=1)
+    clinic.put("2.edf", NIGHT.later(investigation="N2").piece())
+    told = clinic.until_told(full=True)
+    assert told["accepted"] == 1 and clinic.inbox() == ["2.edf", "large.edf"]
     assert told["left"] == [{"name": "large.edf",
                              "answer": f"has {size + 1} bytes, more than largest_file"}]
-    assert {it["cause"] for it in clinic.status()["causes"]} >= {"left", "full"}
-    assert told["accepted"] == 1 and "large.edf" in clinic.inbox()
-    clinic.stop(child)
+    assert clinic.causes().keys() == {"left", "full"}
 
 
 def test_mended_and_sorted_files_are_taken_and_kept_as_they_came(clinic: Clinic) -> None:
     clinic.write_config({"r01": {"mend": True, "by_onset": True}})
-    good, cut = NIGHT.piece(0, 20), NIGHT.piece(20, 40)[:-5]
+    good, cut = NIGHT.piece(0, 20), NIGHT.piece(20, 30)[:-5]
     wrong = good[:168] + b"26/11/26" + good[176:]       # another separator, E6
-    child = clinic.receive()
-    clinic.put("mended.edf", wrong)
-    clinic.put("cut.edf", cut)
-    clinic.until_taken()
+    files = {"b.edf": NIGHT.piece(30), "mended.edf": wrong, "cut.edf": cut}
+    clinic.night_took(files)
     log = {line[2]: line for line in clinic.log()}
-    assert log["mended.edf"][3] == "accepted new=20 known=0"
-    assert log["cut.edf"][3] == "refused E21 CutRecord record=20"
-    assert (clinic.data / "r01/tonight/taken" / log["mended.edf"][1]).read_bytes() == wrong
-    clinic.until(lambda: not os.listdir(clinic.data / "r01/tonight/work"), "nothing is left")
-    clinic.stop(child)
+    assert {name: line[3] for name, line in log.items()} == {
+        "b.edf": "accepted new=10 known=0", "mended.edf": "accepted new=20 known=0",
+        "cut.edf": "refused E21 CutRecord record=10"}
+    tonight = clinic.data / "r01/tonight"
+    assert {name: next(tonight.glob(f"*/{line[1]}")).read_bytes() for name, line in log.items()
+            } == files
+    assert os.listdir(tonight / "work") == []
+    assert {oct(it.stat().st_mode & 0o777) for it in (tonight / "taken").iterdir()} == {"0o640"}
+
+
+def calls_of_receive(clinic: Clinic, data: bytes) -> list[str]:
+    """Those that change the file system, while it takes a.edf with that."""
+    calls = clinic.data / "calls"
+    clinic.put("a.edf", data)
+    clinic.receive(calls=str(calls))
+    clinic.until_taken()
+    clinic.stop()
+    return calls.read_text().splitlines()
+
+
+def killed(clinic: Clinic, data: bytes, nth: int, side: str) -> Clinic:
+    """Another clinic, whose receive was killed at that call while it took the same."""
+    folder = clinic.folder / f"kill{nth}"
+    folder.mkdir()
+    other = Clinic(folder, clinic.programs, clinic.source)
+    other.put("a.edf", data)
+    child = other.receive(kill=[nth, side])
+    other.until(lambda: child.poll() is not None or not other.inbox(), "its end")
+    other.stop(child, number=signal.SIGKILL)
+    return other
 
 
 def test_a_killed_receive_loses_nothing_and_takes_nothing_away(clinic: Clinic) -> None:
-    """A kill before and behind each call that changes something, and it is begun again."""
-    data, calls = NIGHT.piece(), clinic.folder / "calls"
-    child = clinic.receive(calls=str(calls))
-    os.chmod(clinic.folder, 0o777)
-    clinic.stop(child)
-    child = clinic.receive(calls=str(calls))
-    clinic.put("a.edf", data)
-    clinic.until_taken()
-    clinic.stop(child)
-    count = len(calls.read_text().splitlines())
+    """A kill before or behind each call that changes something, and it is begun again."""
+    data = NIGHT.piece()
+    count = len(calls_of_receive(clinic, data))
     assert count > 15
     for nth in range(1, count + 1):
-        folder = clinic.folder / f"kill{nth}"
-        folder.mkdir()
-        other = Clinic(folder, clinic.programs, clinic.source)
-        other.put("a.edf", data)
-        child = other.receive(kill=[nth, ("before", "behind")[nth % 2]])
-        other.until(lambda: child.poll() is not None or not other.inbox(), "its end")
-        other.stop(child, signal.SIGKILL)
+        other = killed(clinic, data, nth, ("before", "behind")[nth % 2])
         assert_nothing_is_lost(other, data)
-        child = other.receive()
+        other.receive()
         other.until_taken()
-        other.stop(child)
+        other.stop()
         assert_nothing_is_lost(other, data)
         assert os.listdir(other.data / "r01/tonight/work") == []
 
 
 def test_what_was_told_is_kept_where_its_name_is_used_again_behind_a_kill(clinic: Clinic) -> None:
-    first, second, calls = NIGHT.piece(0, 20), NIGHT.piece(20, 40), clinic.folder / "calls"
-    os.chmod(clinic.folder, 0o777)
-    clinic.put("a.edf", first)
-    child = clinic.receive(calls=str(calls))
-    clinic.until_taken()
-    clinic.stop(child)
-    kept, = [nth for nth, line in enumerate(calls.read_text().splitlines(), 1)
+    first, second = NIGHT.piece(0, 20), NIGHT.piece(20, 40)
+    kept, = [nth for nth, line in enumerate(calls_of_receive(clinic, first), 1)
              if line.split()[1] == "rename" and "/work/" in line]
-    folder = clinic.folder / "other"
-    folder.mkdir()
-    other = Clinic(folder, clinic.programs, clinic.source)
-    other.put("a.edf", first)
-    child = other.receive(kill=[kept, "before"])
-    other.until(lambda: child.poll() is not None, "its end")
-    other.stop(child, signal.SIGKILL)
+    other = killed(clinic, first, kept, "before")
     assert [line[3] for line in other.log()] == ["accepted new=20 known=0"]
     other.put("a.edf", second)
-    child = other.receive()
+    other.receive()
     other.until_taken()
-    other.stop(child)
+    other.stop()
     taken = (other.data / "r01/tonight/taken").iterdir()
     assert sorted(it.read_bytes() for it in taken) == sorted([first, second])
 

@@ -133,7 +133,7 @@ def wrong_source(folder: Path, changes: Sequence[tuple[str, str, str]]) -> Path:
 @pytest.mark.parametrize("what", WRONG)
 def test_a_wrong_edfclinic_is_found(what: str, scratch: Path, programs: Path) -> None:
     *changes, test = WRONG[what]
-    recorders = ("r01", "r02") if inspect.getmodule(test) is test_hostile else ("r01",)
+    recorders = getattr(inspect.getmodule(test), "RECORDERS", ("r01",))
     clinic = Clinic(scratch, programs, wrong_source(scratch, changes), recorders)
     given = {"clinic": clinic, "is_long": False, "is_gone": True}
     disk = None

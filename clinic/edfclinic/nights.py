@@ -132,8 +132,11 @@ def nights(config: Config, is_json: bool) -> int:
           "\n".join(said or ["no night was put away yet"]))
     for it in [it for it in listed if "night" not in it]:
         text.say(f"{it['folder']} has no {FACTS}")
+    rest = [it for place in places(config) for it in strays(place)]
+    for folder in rest:
+        text.say(f"look: {folder} has files of patients who had no night")
     is_open = any(it["look"] and not it["seen"] for it in whole)
-    return LOOK if is_open or len(whole) < len(listed) else DONE
+    return LOOK if is_open or rest or len(whole) < len(listed) else DONE
 
 
 def seen(config: Config, night: str, why: str) -> int:
