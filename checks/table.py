@@ -1,5 +1,6 @@
 """The checks that `checks/run` runs: each is a module of this folder, or of another that it names,
 with the programs that it takes, what it needs, and how often it tries."""
+import os
 import platform
 import shutil
 from dataclasses import dataclass
@@ -11,6 +12,8 @@ from checks.lib import arguments, disks
 
 def is_here(name: str) -> bool:
     """Whether this command or package is here, or what else a check needs."""
+    if name == "root":
+        return os.geteuid() == 0
     if name == "time":
         return Path("/usr/bin/time").exists()
     if name == "python3-mne":
@@ -117,6 +120,8 @@ CHECKS = (
           counts=(2_000, 2_000), needs=(*BROWSERS, "edfstore.html"), is_on_disk=True,
           is_for_long=True),
     Check("lowered", "calls of a module for 32 bits", (), needs=BROWSERS, is_for_long=True),
+    Check("clinic.weeks", "weeks of clinics by chance", (EDFSTORE, EDFRUNS, EDFSERVE, EDFMEND),
+          counts=(12, 300), needs=("root",)),
     Check("clinic.run", "tests of edfclinic", (EDFSTORE, EDFRUNS, EDFSERVE, EDFMEND),
           counts=(1, 1), needs=("unshare",), is_for_long=True),
     Check("mend.run", "files spoilt by hand, mended", (EDFSTORE, EDFMEND)),

@@ -247,6 +247,16 @@ class Clinic:
         return path
 
 
+def laid(folder: Path, programs: dict[str, Path]) -> Path:
+    """Copies of the programs under their names, for the service's user may not enter the folder of
+    what was unpacked."""
+    folder.chmod(0o755)
+    for name, path in programs.items():
+        shutil.copy(path.resolve(), folder / name)
+        (folder / name).chmod(0o755)
+    return folder
+
+
 def facts(night: Path) -> Any:
     return json.loads((night / "night.json").read_text())
 

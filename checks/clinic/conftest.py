@@ -8,7 +8,7 @@ from typing import Any
 
 import pytest
 
-from checks.clinic.clinic import Clinic
+from checks.clinic.clinic import Clinic, laid
 from checks.lib import arguments
 
 
@@ -19,7 +19,6 @@ def pytest_addoption(parser: Any) -> None:
                         help=f"{name}; the one of PATH, else the one that bin/{name} runs")
     group.addoption("--bare", metavar="FOLDER", help="a Debian for test_real.py")
     group.addoption("--packages", metavar="FOLDER", help="the packages for test_real.py")
-    group.addoption("--seed", type=int, metavar="N", help="this week of the model")
     group.addoption("--long", action="store_true", help="the counts of docs/EVIDENCE.md")
 
 
@@ -32,15 +31,10 @@ def pytest_collection_modifyitems(items: Any) -> None:
 @pytest.fixture(scope="session")
 def programs(request: Any) -> Iterator[Path]:
     """A folder with the four programs under their names."""
+    paths = {name: Path(getattr(request.config.option, option) or shutil.which(name)
+                        or arguments.chosen(name)) for name, option in arguments.OPTIONS.items()}
     with tempfile.TemporaryDirectory(prefix="clinic-programs-") as folder:
-        os.chmod(folder, 0o755)
-        for name, option in arguments.OPTIONS.items():
-            given = getattr(request.config.option, option) or shutil.which(name)
-            path = Path(given or arguments.chosen(name)).resolve()
-            # A copy, for the service's user may not enter the folder of what was unpacked.
-            shutil.copy(path, Path(folder) / name)
-            (Path(folder) / name).chmod(0o755)
-        yield Path(folder)
+        yield laid(Path(folder), paths)
 
 
 @pytest.fixture

@@ -1,12 +1,4 @@
-"""Clinics by chance, whose truth is known, and wrong ones, each of which must be found.
-
-`--seed N` plays that week alone. Each failure is told with its seed and what was done."""
-import os
-import shutil
-import tempfile
-import traceback
-from functools import partial
-from multiprocessing import Pool
+"""Wrong programs, each of which must be found in a week that is directed at it."""
 from pathlib import Path
 from typing import Any
 
@@ -14,12 +6,9 @@ import pytest
 
 from checks.clinic.test_wrong import WRONG as OTHERS
 from checks.clinic.test_wrong import wrong_source
-from checks.clinic.week import Week
-from checks.lib.arguments import TOP
+from checks.clinic.weeks import FOUND, played
 
-WEEKS, LONG_WEEKS, SHOWN = 12, 300, 60
 TRIES = 4       # weeks in which a wrong one must be found
-FOUND = "found: "
 # Of each: what it does, the changes of its sources, and what of a week is not by chance.
 WRONG: dict[str, tuple[list[tuple[str, str, str]], dict[str, Any]]] = {
     "believes that a name has come again": (
@@ -70,33 +59,6 @@ WRONG: dict[str, tuple[list[tuple[str, str, str]], dict[str, Any]]] = {
         ("recode.py", "words = [\"edfmend\", join(old, it), it, \"--set-patient\", code]",
          "words = [\"cp\", join(old, it), it]")],
         {"faults": [], "recodes": 2})}
-
-
-def played(seed: int, programs: Path, source: Path = TOP / "clinic",
-           wanted: dict[str, Any] | None = None) -> str:
-    """Why a week failed, or nothing. It begins with FOUND where a promise was not kept, and not
-    where a program failed otherwise."""
-    folder = Path(tempfile.mkdtemp(prefix="clinic-week-"))
-    folder.chmod(0o755)
-    week = Week(seed, folder, programs, source, wanted)
-    try:
-        week.play()
-    except Exception as why:
-        what = f"{FOUND * isinstance(why, AssertionError)}{why}, seed {seed}"
-        said = "\n".join(week.said[:1] + week.said[-SHOWN:])
-        return f"{what}\n{said}\n{traceback.format_exc()}{what}"
-    finally:
-        week.close()
-        shutil.rmtree(folder, ignore_errors=True)
-    return ""
-
-
-def test_weeks_by_chance(programs: Path, is_long: bool, request: Any) -> None:
-    given = request.config.option.seed
-    seeds = range(LONG_WEEKS if is_long else WEEKS) if given is None else [given]
-    with Pool(min(len(seeds), os.cpu_count() or 1)) as pool:
-        failures = [it for it in pool.imap(partial(played, programs=programs), seeds) if it]
-    assert not failures, f"{len(failures)} of {len(seeds)} weeks failed\n" + failures[0]
 
 
 @pytest.mark.parametrize("what", WRONG)
