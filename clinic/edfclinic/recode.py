@@ -40,8 +40,6 @@ def recode(config: Config, night: str, code: str) -> int:
                 "night": free_name(name_of(name[:10], spell(code)), used_names(place)),
                 "recoded": True}
         files.replace(join(new, nights.REPLACES), f"{name}\n".encode())
-        if files.exists(join(old, nights.SEEN)):        # the looks are the same
-            files.copy_file(join(old, nights.SEEN), join(new, nights.SEEN))
         made = nights.read_facts(there[0]) if there else making.finish(place, new, told)
     files.remove_tree(new)
     making.tell_others(place, made)
