@@ -66,11 +66,21 @@ class Writer:
     night: Recording
     numbers: list[int]
     count: str          # what the header counts meanwhile: all, what is there, or nothing (-1)
+    opened: float
     written: int = 0
 
     @property
     def records(self) -> set[bytes]:
         return {self.night.samples_of(it) for it in self.numbers}
+
+    @property
+    def is_part(self) -> bool:
+        """Its name says that it has not come yet."""
+        return self.path.suffix == ".part"
+
+    @property
+    def is_away(self) -> bool:
+        return os.fstat(self.fd).st_nlink == 0
 
 
 @dataclass

@@ -21,6 +21,7 @@ STILL, UNCLOSED, REFUSE = 10, 120, 600
 TIMES = {"still": f"{STILL} s", "unclosed": f"{UNCLOSED} s", "refuse": f"{REFUSE} s",
          "silent": "4 h", "watch": "22:00-06:00"}
 PAUSES = (3, 20, 150, 700)
+OPEN = 86_400       # seconds for which what was taken is looked at, at least
 CLEAR = re.compile("nothing that came [^\n]*is missing|may be erased")
 Drawn = TypeVar("Drawn")
 
@@ -84,7 +85,7 @@ class Week(Running):
         fd = os.open(path, os.O_RDWR | os.O_CREAT | os.O_EXCL, 0o640)
         os.fchown(fd, self.clinic.uploader(bed.name), self.clinic.uploader(bed.name))
         os.fchmod(fd, 0o640)
-        bed.writers.append(Writer(fd, path, bed.night, numbers, count))
+        bed.writers.append(Writer(fd, path, bed.night, numbers, count, self.clock))
         return bed.writers[-1]
 
     def write(self, bed: Bed, it: Writer, count: int, is_end: bool = False) -> None:
@@ -95,16 +96,17 @@ class Week(Running):
             "all": len(it.numbers), "open": -1}[it.count]
         os.pwrite(it.fd, self.truth.file(it.night, there, count=str(told)), 0)
         self.stamp(it.fd)
-        if it.path.suffix != ".part":
+        is_seen = not it.is_away or self.clock - it.opened <= OPEN
+        if is_seen and not it.is_part:
             self.truth.came[bed.name] |= {it.night.samples_of(nth) for nth in there}
         self.say(f"{bed.name} writes {it.path.name}: {it.written} of {len(it.numbers)}, count "
-                 f"{told}{', which was taken' * (os.fstat(it.fd).st_nlink == 0)}")
+                 f"{told}{', which was taken' * it.is_away}")
         self.advance(2)
 
     def end_writers(self, bed: Bed) -> None:
         for it in list(bed.writers):
             self.write(bed, it, len(it.numbers), True)
-            if it.path.suffix == ".part":
+            if it.is_part:
                 it.path.rename(it.path.with_suffix(""))
                 self.truth.came[bed.name] |= it.records
             self.drop(bed, it)
@@ -116,7 +118,7 @@ class Week(Running):
     def end(self, bed: Bed, number: int = signal.SIGTERM) -> None:
         """What was taken out of the inbox and is written to is nobody's to see from now on."""
         super().end(bed, number)
-        for it in [it for it in bed.writers if os.fstat(it.fd).st_nlink == 0]:
+        for it in [it for it in bed.writers if it.is_away]:
             self.lose(bed, it.records)
             self.drop(bed, it)
 
@@ -213,7 +215,7 @@ class Week(Running):
                 "a card of another night was given, and nothing said"
         truth.assert_exports(before)
         truth.assert_owners()
-        waits = truth.pending().union(*(it.records for it in bed.writers))
+        waits = truth.pending().union(*(it.records for it in bed.writers if not it.is_part))
         nowhere = missing - given - truth.put_away() - waits    # a card's owner keeps it
         assert not nowhere, f"{len(nowhere)} data records came, and are nowhere"
         truth.came[bed.name] = missing & waits
