@@ -54,6 +54,10 @@ def by_edflib(folder: Path) -> Path:
     return Path(shutil.copy(EDFLIB_FILE, folder))
 
 
+def has_octave() -> bool:
+    return bool(shutil.which("octave-cli")) and Path("/usr/share/octave/site/m/biosig").is_dir()
+
+
 def has_library(name: str) -> bool:
     return subprocess.run(["ld", f"-l{name}", "-o", "/dev/null", "--unresolved-symbols=ignore-all"],
                           capture_output=True, check=False).returncode == 0
@@ -61,7 +65,7 @@ def has_library(name: str) -> bool:
 
 WRITERS: tuple[tuple[str, Callable[[Path], Path], Callable[[], bool]], ...] = (
     ("BioSig", by_biosig, lambda: bool(shutil.which("save2gdf"))),
-    ("Octave", by_octave, lambda: bool(shutil.which("octave-cli"))),
+    ("Octave", by_octave, has_octave),
     ("libxdffileio", by_xdffileio, lambda: has_library("xdffileio")),
     ("EDFlib", by_edflib, lambda: True),
     ("EDFbrowser", by_edfbrowser, lambda: all(map(shutil.which, TOOLS))))
